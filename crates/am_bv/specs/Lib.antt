@@ -1,0 +1,5 @@
+pub mod formers
+pub mod Words
+pub mod Operators
+pub mod Terms
+pub mod Theorems

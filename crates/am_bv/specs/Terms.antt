@@ -1,0 +1,42 @@
+-- Terms, each word of them a fold: one step at a node, over what the step gave at its arguments.
+use Rattle.std.specs.Prelude.{ℕ, ◌+◌, ◌^◌, Bool, ◌&&◌, List, length, slice_index, sum, nat_lt, ◌==◌}
+use Rattle.std.specs.List.{list_all}
+use Rattle.am_bv.specs.declared.term.Term.{Term, fold-Term}
+use Rattle.am_bv.specs.declared.term.Term.TheOpen.{Term-F, Const, Field, Node}
+use Rattle.am_bv.specs.Operators.{arity, apply, weight_of}
+
+abbrev pub val_step : ℕ → List ℕ → Term-F ℕ → ℕ
+val_step w env (Const c) = c
+val_step w env (Field i) = slice_index env i
+val_step w env (Node op words) = apply w op words
+
+-- the value of a term at width w, where env gives the fields their words
+unfoldable pub val : ℕ → Term → List ℕ → ℕ
+val w t env = fold-Term ℕ (val_step w env) t
+
+abbrev pub fits_step : ℕ → ℕ → Term-F Bool → Bool
+fits_step w n (Const c) = nat_lt c (2 ^ w)
+fits_step w n (Field i) = nat_lt i n
+fits_step w n (Node op fit) = (length fit == arity op) && list_all (λ b. b) fit
+
+-- whether each constant is below 2 ^ w, each field below n, and each operator has as many arguments as its arity
+unfoldable pub fits : ℕ → ℕ → Term → Bool
+fits w n t = fold-Term Bool (fits_step w n) t
+
+abbrev pub nodes_step : Term-F ℕ → ℕ
+nodes_step (Const c) = 1
+nodes_step (Field i) = 1
+nodes_step (Node op counts) = 1 + sum counts
+
+-- the number of operators and leaves
+unfoldable pub nodes : Term → ℕ
+nodes t = fold-Term ℕ nodes_step t
+
+abbrev pub weight_step : ℕ → Term-F ℕ → ℕ
+weight_step w (Const c) = 0
+weight_step w (Field i) = 0
+weight_step w (Node op weights) = weight_of w op + sum weights
+
+-- the sum of the weights of the operators, at width w
+unfoldable pub weight : ℕ → Term → ℕ
+weight w t = fold-Term ℕ (weight_step w) t

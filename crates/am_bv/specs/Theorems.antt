@@ -1,0 +1,63 @@
+-- Laws of operators and terms, for all widths, terms and rows of words. The functions of `theorems` prove them.
+use Rattle.std.specs.Prelude.{◌≡◌, ℕ, ◌+◌, ◌^◌, ◌<◌, ◌≤◌, List, length, map, sum_by, slice_index, IsTrue, nat_lt, ◌==◌, ◌&&◌}
+use Rattle.std.specs.List.{list_all}
+use Rattle.am_bv.specs.declared.op.Op.{Op}
+use Rattle.am_bv.specs.declared.term.Term.{Term}
+use Rattle.am_bv.specs.declared.term.Term.TheVariants.{Const, Field, Node}
+use Rattle.am_bv.specs.Words.{AreWords}
+use Rattle.am_bv.specs.Operators.{arity, apply, weight_of}
+use Rattle.am_bv.specs.Terms.{val, fits, nodes, weight}
+
+-- the value of a term, kind by kind
+abbrev pub ConstHasItsWord : Type 0
+ConstHasItsWord = (w c : ℕ) (env : List ℕ) → val w (Const c) env ≡ c
+
+abbrev pub FieldHasItsEntry : Type 0
+FieldHasItsEntry = (w i : ℕ) (env : List ℕ) → val w (Field i) env ≡ slice_index env i
+
+abbrev pub NodeHasItsOperatorsValue : Type 0
+NodeHasItsOperatorsValue =
+    (w : ℕ) (op : Op) (args : List Term) (env : List ℕ) →
+    val w (Node op args) env ≡ apply w op (map (λ t. val w t env) args)
+
+-- which terms fit, kind by kind
+abbrev pub ConstFitsAsWord : Type 0
+ConstFitsAsWord = (w n c : ℕ) → fits w n (Const c) ≡ nat_lt c (2 ^ w)
+
+abbrev pub FieldFitsInRow : Type 0
+FieldFitsInRow = (w n i : ℕ) → fits w n (Field i) ≡ nat_lt i n
+
+abbrev pub NodeFitsByArguments : Type 0
+NodeFitsByArguments =
+    (w n : ℕ) (op : Op) (args : List Term) →
+    fits w n (Node op args) ≡ ((length args == arity op) && list_all (fits w n) args)
+
+-- the number of nodes, kind by kind
+abbrev pub ConstIsOneNode : Type 0
+ConstIsOneNode = (c : ℕ) → nodes (Const c) ≡ 1
+
+abbrev pub FieldIsOneNode : Type 0
+FieldIsOneNode = (i : ℕ) → nodes (Field i) ≡ 1
+
+abbrev pub NodeCountsItsArguments : Type 0
+NodeCountsItsArguments = (op : Op) (args : List Term) → nodes (Node op args) ≡ 1 + sum_by nodes args
+
+-- the weight, kind by kind
+abbrev pub ConstWeighsNothing : Type 0
+ConstWeighsNothing = (w c : ℕ) → weight w (Const c) ≡ 0
+
+abbrev pub FieldWeighsNothing : Type 0
+FieldWeighsNothing = (w i : ℕ) → weight w (Field i) ≡ 0
+
+abbrev pub NodeWeighsItsOperators : Type 0
+NodeWeighsItsOperators =
+    (w : ℕ) (op : Op) (args : List Term) → weight w (Node op args) ≡ weight_of w op + sum_by (weight w) args
+
+-- operators take words to words, and so do terms that fit
+abbrev pub OperatorsGiveWords : Type 0
+OperatorsGiveWords = (w : ℕ) → 1 ≤ w → (op : Op) (args : List ℕ) → AreWords w args → apply w op args < 2 ^ w
+
+abbrev pub FittingTermsGiveWords : Type 0
+FittingTermsGiveWords =
+    (w : ℕ) → 1 ≤ w → (t : Term) (env : List ℕ) →
+    IsTrue (fits w (length env) t) → AreWords w env → val w t env < 2 ^ w

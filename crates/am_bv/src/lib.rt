@@ -1,0 +1,38 @@
+//! Bit-vector terms over words of 2 to 8 bits: the words, the operators, the terms, and a proved
+//! evaluator of them.
+//!
+//! A word of width w is a number from 0 to 2^w - 1, held in a `u8`. A term is a constant, a field or
+//! an operator at terms, and [`value`] is its meaning by whole-number arithmetic modulo 2^w, as
+//! SMT-LIB's fixed-size bit-vectors have it. A comparison answers the word 1 or 0.
+//!
+//! ```
+//! let w = Width::new(4).ok_or("no width")?;
+//! let mut args = Row::new(alloc);
+//! args.push(Term::Field(0))?;
+//! args.push(Term::Const(9))?;
+//! let sum = Term::Node(Op::Add, args);
+//! if sum.fits(w, 1) {
+//!     let word = value(w, &sum, &[w.truncate(8)]); // 1, since 8 + 9 is 16 + 1
+//! }
+//! ```
+//!
+//! What the operators and terms mean stands in `specs/Words.antt`, `specs/Operators.antt` and
+//! `specs/Terms.antt`. [`theorems`] has laws on them for the proofs of other crates.
+#![tactic(auto)]
+
+mod apply;
+mod evaluation;
+mod op;
+mod row;
+mod term;
+pub mod theorems;
+mod width;
+
+pub use evaluation::value;
+pub use op::Op;
+pub use row::Row;
+pub use term::{Term, Terms};
+pub use width::Width;
+
+#[cfg(test)]
+mod tests;

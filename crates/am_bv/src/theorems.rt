@@ -1,0 +1,38 @@
+//! Laws of terms for the proofs of other crates. Each function does nothing: its clauses are the
+//! laws, and a call brings them into the caller's proof.
+
+ghost use Rattle.am_bv.specs.Theorems.{ConstHasItsWord, FieldHasItsEntry, NodeHasItsOperatorsValue, ConstFitsAsWord, FieldFitsInRow, NodeFitsByArguments, ConstIsOneNode, FieldIsOneNode, NodeCountsItsArguments, ConstWeighsNothing, FieldWeighsNothing, NodeWeighsItsOperators, OperatorsGiveWords, FittingTermsGiveWords};
+
+/// What the value of a term is at each of its kinds.
+pub fn value_by_kind()
+    ensures constant { ConstHasItsWord }
+    ensures field { FieldHasItsEntry }
+    ensures node { NodeHasItsOperatorsValue }
+{}
+
+/// When a term fits at each of its kinds.
+pub fn fits_by_kind()
+    ensures constant { ConstFitsAsWord }
+    ensures field { FieldFitsInRow }
+    ensures node { NodeFitsByArguments }
+{}
+
+/// How many nodes a term of each kind has.
+pub fn nodes_by_kind()
+    ensures constant { ConstIsOneNode }
+    ensures field { FieldIsOneNode }
+    ensures node { NodeCountsItsArguments }
+{}
+
+/// How much a term of each kind weighs.
+pub fn weight_by_kind()
+    ensures constant { ConstWeighsNothing }
+    ensures field { FieldWeighsNothing }
+    ensures node { NodeWeighsItsOperators }
+{}
+
+/// Values are words of their width.
+pub fn values_are_words()
+    ensures operator { OperatorsGiveWords }
+    ensures term { FittingTermsGiveWords }
+{}

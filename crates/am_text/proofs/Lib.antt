@@ -1,0 +1,4 @@
+pub mod Rows
+pub mod Front
+pub mod Slices
+pub mod Joining

@@ -1,0 +1,6 @@
+-- What a token shows.
+use Rattle.am_text.specs.Tokens.{Placed}
+use Rattle.am_text.specs.declared.token.Token.{Token}
+
+abbrev pub seen : Token → Placed
+seen t = record { place = t.at; word = t.text.now }

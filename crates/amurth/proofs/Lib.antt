@@ -1,0 +1,16 @@
+pub mod Numbering
+pub mod Picking
+pub mod Deciding
+pub mod TermTexts
+pub mod Asking
+pub mod Finds
+pub mod Loops
+pub mod Matching
+pub mod TermSteps
+pub mod PieceLaws
+pub mod NumeralLaws
+pub mod WordLaws
+pub mod ManyLaws
+pub mod TermLaws
+pub mod GrammarLaws
+pub mod ProblemLaws

@@ -1,0 +1,15 @@
+pub mod Interval
+pub mod Choices
+pub mod Numbered
+pub mod Asked
+pub mod Problem
+pub mod Names
+pub mod Numerals
+pub mod Spelling
+pub mod Built
+pub mod Shown
+pub mod Answer
+pub mod Command
+pub mod Status
+pub mod Run
+pub mod Reading
