@@ -1,0 +1,5 @@
+pub mod Literal
+pub mod Clause
+pub mod Truth
+pub mod UnitRow
+pub mod UnitRowLaws
