@@ -1,7 +1,7 @@
 -- To be more precise is transitive.
 use Rattle.std.proofs.Common.{List}
 use Rattle.am_bv.specs.declared.term.Term.{Term}
-use Rattle.am_domain.specs.Question.{Question, Betters, Exceeds}
+use Rattle.am_domain.specs.Question.{Question, Betters}
 
 pub Betters-trans : (q : Question) (a b c : List Term) → Betters q a b → Betters q b c → Betters q a c
 Betters-trans q a b c first second =
@@ -14,6 +14,6 @@ Betters-trans q a b c first second =
         word = e.word;
         below = e.below;
         member = second.within e.inputs e.are_inputs e.word e.below e.member;
-        no_member = e.no_member
-      }
+        no_member = e.no_member;
+      };
     }

@@ -1,2 +1,3 @@
 pub mod Tuple
 pub mod Question
+pub mod Laws

@@ -1,14 +1,14 @@
 -- What is found out at each numbered tuple of words decides the question.
-use Rattle.std.proofs.Common.{◌≡◌, ℕ, zero, suc, get_or, ◌+◌, ◌*◌, ◌^◌, ◌<◌, List, [], ◌∷◌, ◌++◌, length, map, refl, sym, ap, subst, below_more, arith}
+use Rattle.std.proofs.Common.{◌≡◌, ℕ, zero, suc, get_or, ◌+◌, ◌*◌, ◌^◌, ◌<◌, List, [], ◌∷◌, map, refl, sym, ap, subst, below_more, arith}
 use Rattle.std.proofs.lemmas.List.{append-nil}
 use Rattle.std.specs.declared.option.Option.{Option}
-use Rattle.std.specs.Prelude.{All, MatchOption, MatchBool, None, Some, IsTrue, Bool, true, false}
+use Rattle.std.specs.Prelude.{MatchOption, MatchBool, None, Some, IsTrue, Bool, true, false}
 use Rattle.am_bv.specs.Terms.{val}
 use Rattle.am_bv.specs.declared.term.Term.{Term}
 use Rattle.am_domain.specs.Tuple.{IsTuple}
 use Rattle.am_domain.specs.Question.{Question, AreInputs, AreMembers, IsSound, IsWithin, Exceeds, Betters, IsBest, IsAbsent, results}
 use Rattle.am_domain.proofs.Precision.{Betters-trans}
-use Rattle.amurth.specs.Choices.{Picks, tuple_count, tuple_at}
+use Rattle.amurth.specs.Choices.{tuple_count, tuple_at}
 use Rattle.amurth.specs.Numbered.{words_at}
 use Rattle.amurth.specs.Asked.{asked, Covers, Misses, Includes, Lacks}
 use Rattle.amurth.proofs.Numbering.{IsTuple-place, Picks-number, tuple_at-Picks}

@@ -1,5 +1,5 @@
 -- The laws of rules, and of the names that they have.
-use Rattle.std.proofs.Common.{◌≡◌, ◌≢◌, ℕ, ◌^◌, ◌<◌, ◌≤◌, Bool, true, false, cond, ◌&&◌, ◌||◌, not, List, [], ◌∷◌, ◌++◌, length, map, decimal, flat_map, codes, Option, Some, None, bytes_eq, ap, subst, ◌∙◌, sym, refl, arith, All, AllPairs, Contains, inl, inr, lit≤}
+use Rattle.std.proofs.Common.{◌≡◌, ◌≢◌, ℕ, ◌^◌, ◌<◌, ◌≤◌, true, false, ◌||◌, List, [], ◌∷◌, ◌++◌, length, decimal, flat_map, codes, bytes_eq, ap, ◌∙◌, sym, refl, arith, All, AllPairs, Contains, inl, inr}
 use Rattle.std.specs.List.{AllByRecursion, IsDistinct, list_all}
 use Rattle.std.proofs.lemmas.Bool.{and_from, and_parts, both_ways, cases_lt, false_from_ne_true, false≢true, or_parts, not-true, not_from_false, or_right, ltb-true}
 use Rattle.std.proofs.lemmas.Cmp.{nat_list_eq_equiv}
@@ -8,19 +8,16 @@ use Rattle.std.proofs.lemmas.List.Elements.{All-contains, All-from_recursion, re
 use Rattle.std.proofs.lemmas.List.Folds.{list_any_none}
 use Rattle.std.proofs.lemmas.Map.Made.{AllPairs-from_IsDistinct, IsDistinct-from_AllPairs, is_member-Decides, length-le_from_is_member}
 use Rattle.std.proofs.lemmas.Slice.Eq.{bytes_eq-Decides}
-use Rattle.am_bv.specs.declared.op.Op.{Op}
 use Rattle.am_bv.specs.declared.term.Term.{Term}
-use Rattle.am_bv.specs.declared.term.Term.TheVariants.{Const, Field, Node}
-use Rattle.am_bv.specs.Terms.{fits}
 use Rattle.am_bv.proofs.Induction.{by_induction}
 use Rattle.am_bv.proofs.Laws.{fits-Const}
 use Rattle.amurth.specs.declared.terms.Scope.{Scope}
 use Rattle.amurth.specs.Built.{IsBuiltRule, IsBuiltTerm, most_productions}
 use Rattle.amurth.specs.Numerals.{is_name, is_numeral}
 use Rattle.amurth.specs.Problem.{Rule, rule_names}
-use Rattle.amurth.specs.Reading.{Words, after, are_distinct, ends_rule, ends_rules, has_name, many, mapped, match_starts, name_at, never, next_is, pair, rule_at, rules_at, small_term_at}
+use Rattle.amurth.specs.Reading.{Words, are_distinct, ends_rule, ends_rules, has_name, many, match_starts, name_at, never, next_is, rule_at, rules_at, small_term_at}
 use Rattle.amurth.specs.Spelling.{field_letter, rule_words, term_words}
-use Rattle.amurth.proofs.ManyLaws.{TakesMany, many_again, many_takes}
+use Rattle.amurth.proofs.ManyLaws.{many_again, many_takes}
 use Rattle.amurth.proofs.NumeralLaws.{decimal-is_numeral}
 use Rattle.amurth.proofs.PieceLaws.{IsSpelled, always, mapped_law, pair_law}
 use Rattle.amurth.proofs.TermLaws.{IsScope, narrow, small_term_law, words-Const, words-Field, words-Node}

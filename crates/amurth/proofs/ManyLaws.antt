@@ -1,10 +1,10 @@
 -- The laws of pieces that stand one after the other.
-use Rattle.std.proofs.Common.{◌≡◌, ℕ, zero, suc, ◌<◌, ◌≤◌, Bool, true, false, cond, List, [], ◌∷◌, ◌++◌, length, flat_map, Option, Some, None, ap, subst, ◌∙◌, sym, refl, arith, append_assoc, inl, inr, lit≤}
+use Rattle.std.proofs.Common.{◌≡◌, ℕ, zero, suc, ◌<◌, ◌≤◌, Bool, true, false, List, [], ◌∷◌, ◌++◌, length, flat_map, Option, Some, ap, subst, ◌∙◌, sym, refl, arith, append_assoc, inl, inr, lit≤}
 use Rattle.std.specs.List.{AllByRecursion}
 use Rattle.std.proofs.lemmas.Bool.{cases_Bool}
-use Rattle.amurth.specs.Reading.{◌>>=◌, Words, many, never}
+use Rattle.amurth.specs.Reading.{◌>>=◌, Words, many}
 use Rattle.amurth.proofs.Loops.{after_item, many_end, many_none, many_one}
-use Rattle.amurth.proofs.PieceLaws.{IsSpelled, always, bind_some, some_is}
+use Rattle.amurth.proofs.PieceLaws.{IsSpelled, bind_some, some_is}
 
 -- what n pieces at most took
 pub record TakesMany {X : Type 0} (ends : Words → Bool) (spell : X → Words) (Good : X → Type 0) (n : ℕ) (ws : Words) (x : List X × Words) : Type 0 where

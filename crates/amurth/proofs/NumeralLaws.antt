@@ -1,9 +1,9 @@
 -- The decimal text of a number is its numeral, and no other word is.
-use Rattle.std.proofs.Common.{◌≡◌, ℕ, zero, suc, ◌+◌, ◌*◌, ◌-◌, ◌^◌, ◌<◌, ◌≤◌, Bool, true, false, cond, ◌||◌, ◌&&◌, not, ◌==◌, nat_le, List, [], ◌∷◌, length, get_or, decimal, fold, Option, Some, None, ap, subst, ◌∙◌, sym, refl, arith, rules, lit<, inl, inr}
+use Rattle.std.proofs.Common.{◌≡◌, ℕ, zero, suc, ◌+◌, ◌*◌, ◌-◌, ◌^◌, ◌<◌, ◌≤◌, true, false, cond, not, ◌==◌, nat_le, List, [], ◌∷◌, length, get_or, decimal, fold, Some, None, ap, subst, ◌∙◌, sym, refl, arith, rules, lit<, inl, inr}
 use Rattle.std.specs.List.{list_all}
 use Rattle.std.proofs.lemmas.Str.Parse.{IsNumeralModel, numerals_by_fold}
 use Rattle.std.proofs.lemmas.Fmt.{digits_decimal, digits_value-decimal, decimal-digits_value, decimal_nonempty, decimal_digit, first_decimal}
-use Rattle.std.proofs.lemmas.Bool.{and_from, and_parts, and_left, and_right, cases_Bool, eqb-true, eqb-false, le-leb, leb-true, ne_eqb, or_cases, or_right, not-true}
+use Rattle.std.proofs.lemmas.Bool.{and_from, and_parts, and_left, and_right, eqb-true, eqb-false, le-leb, leb-true, ne_eqb, or_cases, or_right, not-true}
 use Rattle.std.proofs.lemmas.Option.{cond_some}
 use Rattle.amurth.specs.Numerals.{is_canonical, is_digit, is_numeral, number_of}
 use Rattle.amurth.specs.Reading.{number_in}
@@ -24,7 +24,7 @@ canonical_parts [] h = absurd cc
 canonical_parts (b ∷ bs) h = record {
   long = omega arith;
   zero = λ (e : b ≡ 48). elim (or_cases _ _ h) [
-    | inl none ↦ omega (arith, eqb-true (length bs) 0 none)
+    | inl none ↦ let empty = eqb-true (length bs) 0 none in omega arith
     | inr other ↦ absurd (eqb-false b 48 (not-true _ other) e)
   ];
 }

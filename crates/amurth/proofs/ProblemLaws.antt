@@ -1,25 +1,22 @@
 -- A problem that is read is spelled so, and a problem that is spelled is read.
-use Rattle.std.proofs.Common.{◌≡◌, ℕ, ◌^◌, ◌<◌, ◌≤◌, ◌==◌, Bool, true, false, cond, List, [], ◌∷◌, ◌++◌, length, map, decimal, flat_map, codes, Option, Some, None, ap, subst, ◌∙◌, sym, refl, arith, All, lit<, lit≤, IsTrue}
+use Rattle.std.proofs.Common.{◌≡◌, ℕ, ◌≤◌, true, List, [], ◌∷◌, ◌++◌, length, decimal, flat_map, codes, Some, None, ap, ◌∙◌, sym, refl, arith, lit<, lit≤, IsTrue}
 use Rattle.std.specs.List.{AllByRecursion}
-use Rattle.std.proofs.lemmas.Bool.{eqb-true, ne_eqb}
 use Rattle.std.proofs.lemmas.Fmt.{decimal_digit}
-use Rattle.std.proofs.lemmas.List.{append-nil, nil_from_length}
+use Rattle.std.proofs.lemmas.List.{append-nil}
 use Rattle.std.proofs.lemmas.List.Elements.{All-from_recursion, recursion_from_All}
-use Rattle.std.proofs.lemmas.Option.{cond_some}
-use Rattle.am_bv.specs.declared.term.Term.{Term}
 use Rattle.am_text.specs.Tokens.{bad_byte, words_of}
 use Rattle.amurth.specs.declared.problem.Kind.{Kind}
 use Rattle.amurth.specs.declared.problem.Kind.TheVariants.{UInterval, SInterval, KnownBits, Parity, Congruence}
-use Rattle.amurth.specs.Built.{IsBuilt, IsBuiltRule, IsBuiltTerm, Reads, is_built_kind, most_conflicts, most_turns}
+use Rattle.amurth.specs.Built.{IsBuilt, IsBuiltRule, IsBuiltTerm, Reads, most_conflicts, most_turns}
 use Rattle.amurth.specs.Names.{kind_name}
 use Rattle.amurth.specs.Numerals.{is_name}
-use Rattle.amurth.specs.Problem.{Problem, Rule, fields_of, rule_names}
+use Rattle.amurth.specs.Problem.{Problem, fields_of, rule_names}
 use Rattle.amurth.specs.declared.refusal.ReadError.{ReadError}
 use Rattle.amurth.specs.declared.refusal.ReadError.TheVariants.{Unbuilt, NoMemory}
-use Rattle.amurth.specs.Reading.{◌>>=◌, Body, Fails, Parts, Words, body_at, budgets_at, domain_at, match_starts, operation_at, problem_at, problem_from, starts_at, width_at}
+use Rattle.amurth.specs.Reading.{Body, Fails, Parts, Words, body_at, budgets_at, domain_at, match_starts, operation_at, problem_at, problem_from, starts_at, width_at}
 use Rattle.amurth.specs.Spelling.{field_letter, input_letter, rule_words, spelling, term_words}
 use Rattle.amurth.proofs.GrammarLaws.{Match, match_from, match_to, names_law, no_more_rules, rules_law}
-use Rattle.amurth.proofs.PieceLaws.{IsSpelled, always, bind_some, mapped_law, only_law, pair_law, some_is}
+use Rattle.amurth.proofs.PieceLaws.{IsSpelled, always, mapped_law, only_law, pair_law, some_is}
 use Rattle.amurth.proofs.TermLaws.{IsScope, small_term_law}
 use Rattle.amurth.proofs.WordLaws.{keyed_law, keyed_number_law, kind_law, one_law}
 
@@ -37,7 +34,7 @@ operation_law w small =
     (λ n one. small_term_law (record { width = w; letter = input_letter; variables = n }) (record { width = omega arith; letter = refl; no_opening = refl; variables = omega arith }))
     (λ _ _ _ _ _. tt)
 
-domain_law : IsSpelled domain_at (λ kind. codes "domain" ∷ kind_name kind ∷ []) (λ kind. Unit {0} × (is_built_kind kind ≡ true)) always
+domain_law : IsSpelled domain_at (λ kind. codes "domain" ∷ kind_name kind ∷ []) (λ _. Unit {0}) always
 unfolding domain_at
 domain_law = keyed_law (codes "domain") kind_law
 
@@ -73,7 +70,7 @@ GoodBudgets x = (x.0 ≡ 1) × (((0 ≤ x.1.0) × (x.1.0 ≤ most_turns)) × ((1
 
 abbrev GoodBody : ℕ → Body → Type 0
 GoodBody w x =
-    (Unit {0} × (is_built_kind x.0 ≡ true)) × ((AllByRecursion (λ v. is_name v ≡ true) x.1.0 × (length x.1.0 ≡ fields_of x.0))
+    Unit {0} × ((AllByRecursion (λ v. is_name v ≡ true) x.1.0 × (length x.1.0 ≡ fields_of x.0))
     × (GoodBudgets x.1.1.0 × (AllByRecursion (IsBuiltRule w (fields_of x.0)) x.1.1.1 × (length x.1.1.1 ≤ fields_of x.0))))
 
 body_law : (w : ℕ) → w ≤ 3 → IsSpelled (body_at w) body_words (GoodBody w) always
@@ -100,7 +97,6 @@ built_from p (good, names) =
       narrow = good.1.0;
       one_input = good.1.1.0.0;
       operation = good.1.1.0.1;
-      kind = body.0.1;
       start_per_field = body.1.0.1;
       start_names = All-from_recursion (λ (v : List ℕ). IsTrue (is_name v)) p.starts body.1.0.0;
       flat = body.1.1.0.0;
@@ -122,7 +118,7 @@ built_to p is =
           (
             (is.one_input, is.operation),
             (
-              (tt, is.kind),
+              tt,
               (
                 (recursion_from_All (λ (v : List ℕ). IsTrue (is_name v)) p.starts is.start_names, is.start_per_field),
                 (
@@ -164,6 +160,11 @@ reads_from text p rest allowed e end =
 -- the problem that the words spell is read from them
 pub reads_to : (text : List ℕ) (p : Problem) → Reads text p → problem_at (words_of text) ≡ Some (p, [])
 reads_to text p reads = ap problem_at (reads.spelled ∙ sym (append-nil (spelling p))) ∙ problem_law.again p [] (built_to p reads.built) tt
+
+-- the words spell no other problem than the one that is read from them
+pub only_spelled : (text : List ℕ) (p q : Problem) (ws rest : Words) → ws ≡ words_of text → problem_at ws ≡ Some (q, rest) → Reads text p → p ≡ q
+only_spelled text p q ws rest same read reads =
+    ap (λ (x : Problem × Words). x.0) (some_is (p, []) (q, rest) (sym (reads_to text p reads) ∙ ap problem_at (sym same) ∙ read))
 
 -- where nothing is read, no problem is spelled
 pub none_spelled : (text : List ℕ) (p : Problem) (ws : Words) (e : ReadError) → ws ≡ words_of text → Fails e (problem_at ws) → e ≡ Unbuilt → Reads text p → ⊥

@@ -1,9 +1,8 @@
 -- A term that is read is spelled so, and a term that is spelled is read.
-use Rattle.std.proofs.Common.{◌≡◌, ℕ, zero, suc, ◌+◌, ◌-◌, ◌^◌, ◌<◌, ◌≤◌, Bool, true, false, cond, ◌&&◌, ◌==◌, nat_lt, List, [], ◌∷◌, ◌++◌, length, map, decimal, flat_map, codes, sum_by, Option, Some, None, IsTrue, bytes_eq, ap, subst, ◌∙◌, sym, refl, arith, append_assoc, inl, inr, lit≤, lit<}
+use Rattle.std.proofs.Common.{◌≡◌, ℕ, zero, suc, ◌+◌, ◌-◌, ◌^◌, ◌<◌, ◌≤◌, true, false, cond, ◌&&◌, ◌==◌, nat_lt, List, [], ◌∷◌, ◌++◌, length, map, decimal, flat_map, codes, sum_by, Option, Some, None, bytes_eq, ap, subst, ◌∙◌, sym, refl, arith, append_assoc, inl, inr, lit≤, lit<}
 use Rattle.std.specs.List.{AllByRecursion, list_all}
 use Rattle.std.proofs.Math.Nat.{pow-le-pow_right}
-use Rattle.std.proofs.lemmas.Bool.{and_from, and_left, and_parts, cases_Bool, both_ways, eq-eqb, eqb-true, lt-ltb, ltb-true}
-use Rattle.std.proofs.lemmas.List.{length-map}
+use Rattle.std.proofs.lemmas.Bool.{and_from, and_left, and_parts, cases_Bool, eq-eqb, eqb-true, lt-ltb, ltb-true}
 use Rattle.std.proofs.lemmas.List.Sums.{sum_by-cons}
 use Rattle.std.proofs.lemmas.Option.{cond_some}
 use Rattle.am_bv.specs.Operators.{arity}
@@ -15,7 +14,7 @@ use Rattle.am_bv.specs.declared.term.Term.TheVariants.{Const, Field, Node, outs-
 use Rattle.am_bv.proofs.Induction.{by_induction}
 use Rattle.am_bv.proofs.Laws.{fits-Const, fits-Field, fits-Node, fold_at, nodes-Const, nodes-Field, nodes-Node}
 use Rattle.amurth.specs.declared.terms.Scope.{Scope}
-use Rattle.amurth.specs.Built.{IsBuiltTerm, is_built_operator, most_nodes, operators_pass, operators_step}
+use Rattle.amurth.specs.Built.{IsBuiltTerm, most_nodes}
 use Rattle.amurth.specs.Names.{op_name}
 use Rattle.amurth.specs.Numerals.{is_digit, is_numeral, number_of}
 use Rattle.amurth.specs.Reading.{◌>>=◌, Left, Words, after, leaf_in, many, never, node_at, op_at, small_term_at, term_at, term_by, variable_in, word_at}
@@ -46,24 +45,6 @@ words-Node letter op ts =
     fold_at (term_words_step letter) (Node op ts) (Node-F op ts) (outs-Node op ts)
     ∙ ap (λ ws. codes "(" ∷ op_name op ∷ (ws ++ codes ")" ∷ [])) (joined (term_words letter) ts)
 
-operators-Const : (c : ℕ) → operators_pass is_built_operator (Const c) ≡ true
-unfolding operators_pass
-operators-Const c = fold_at (operators_step is_built_operator) (Const c) (Const-F c) (outs-Const c)
-
-operators-Field : (i : ℕ) → operators_pass is_built_operator (Field i) ≡ true
-unfolding operators_pass
-operators-Field i = fold_at (operators_step is_built_operator) (Field i) (Field-F i) (outs-Field i)
-
-all_of_map : {A : Type 0} (test : A → Bool) (xs : List A) → list_all (λ b. b) (map test xs) ≡ list_all test xs
-all_of_map test [] = refl
-all_of_map test (x ∷ xs) = ap (λ b. test x && b) (all_of_map test xs)
-
-operators-Node : (op : Op) (ts : List Term) → operators_pass is_built_operator (Node op ts) ≡ (is_built_operator op && list_all (operators_pass is_built_operator) ts)
-unfolding operators_pass
-operators-Node op ts =
-    fold_at (operators_step is_built_operator) (Node op ts) (Node-F op ts) (outs-Node op ts)
-    ∙ ap (λ b. is_built_operator op && b) (all_of_map (operators_pass is_built_operator) ts)
-
 -- ---- what is read
 
 -- a width, a letter and a number of variables that a term may have
@@ -77,20 +58,18 @@ pub record IsScope (scope : Scope) : Type 0 where
 pub record Took (scope : Scope) (s : Left) (x : Term × Left) : Type 0 where
   pub spelled : s.words ≡ term_words scope.letter x.0 ++ x.1.words
   pub fit : fits scope.width scope.variables x.0 ≡ true
-  pub operators : operators_pass is_built_operator x.0 ≡ true
   pub room : nodes x.0 + x.1.room ≡ s.room
 
 pub record TookAll (scope : Scope) (n : ℕ) (s : Left) (x : List Term × Left) : Type 0 where
   pub spelled : s.words ≡ flat_map (term_words scope.letter) x.0 ++ x.1.words
   pub fit : list_all (fits scope.width scope.variables) x.0 ≡ true
-  pub operators : list_all (operators_pass is_built_operator) x.0 ≡ true
   pub room : sum_by nodes x.0 + x.1.room ≡ s.room
   pub count : length x.0 ≡ n
 
 all_take : (scope : Scope) (read : Left → Option (Term × Left)) → ((s : Left) (x : Term × Left) → read s ≡ Some x → Took scope s x) →
     (n : ℕ) (s : Left) (x : List Term × Left) → many never read n s ≡ Some x → TookAll scope n s x
 all_take scope read each zero s x e =
-    subst (TookAll scope 0 s) (some_is ([], s) x (sym (many_none never read s) ∙ e)) (record { spelled = refl; fit = refl; operators = refl; room = omega arith; count = refl })
+    subst (TookAll scope 0 s) (some_is ([], s) x (sym (many_none never read s) ∙ e)) (record { spelled = refl; fit = refl; room = omega arith; count = refl })
 all_take scope read each (suc n) s x e =
     let f = bind_some (read s) (λ first. many never read n first.1 >>= λ others. Some (first.0 ∷ others.0, others.1)) x (sym (many_one never read n s refl) ∙ e) in
     let g = bind_some (many never read n f.0.1) (λ others. Some (f.0.0 ∷ others.0, others.1)) x f.2 in
@@ -100,7 +79,6 @@ all_take scope read each (suc n) s x e =
     subst (TookAll scope (suc n) s) (some_is made x g.2) (record {
       spelled = one.spelled ∙ ap (λ (t : Words). term_words scope.letter f.0.0 ++ t) others.spelled ∙ sym (append_assoc (term_words scope.letter f.0.0) (flat_map (term_words scope.letter) g.0.0) g.0.1.words);
       fit = and_from _ _ one.fit others.fit;
-      operators = and_from _ _ one.operators others.operators;
       room = omega (arith, one.room, others.room, sum_by-cons nodes f.0.0 g.0.0);
       count = omega (arith, others.count);
     })
@@ -108,7 +86,6 @@ all_take scope read each (suc n) s x e =
 record IsLeaf (scope : Scope) (v : List ℕ) (t : Term) : Type 0 where
   spelled : v ∷ [] ≡ term_words scope.letter t
   fit : fits scope.width scope.variables t ≡ true
-  operators : operators_pass is_built_operator t ≡ true
   one : nodes t ≡ 1
 
 pub narrow : (w n : ℕ) → w ≤ 8 → n < 2 ^ w → n < 2 ^ 64
@@ -120,7 +97,6 @@ const_leaf : (scope : Scope) → IsScope scope → (v : List ℕ) → is_numeral
 const_leaf scope is v numeral below = record {
   spelled = ap (λ (w : List ℕ). w ∷ []) (decimal_of_number v numeral (narrow scope.width (number_of v) is.width below)) ∙ sym (words-Const scope.letter (number_of v));
   fit = fits-Const scope.width scope.variables (number_of v) ∙ lt-ltb _ _ below;
-  operators = operators-Const (number_of v);
   one = nodes-Const (number_of v);
 }
 
@@ -128,7 +104,6 @@ field_leaf : (scope : Scope) → IsScope scope → (bs : List ℕ) → is_numera
 field_leaf scope is bs numeral below = record {
   spelled = ap (λ (w : List ℕ). (scope.letter ∷ w) ∷ []) (decimal_of_number bs numeral (omega (arith, is.variables))) ∙ sym (words-Field scope.letter (number_of bs));
   fit = fits-Field scope.width scope.variables (number_of bs) ∙ lt-ltb _ _ below;
-  operators = operators-Field (number_of bs);
   one = nodes-Field (number_of bs);
 }
 
@@ -169,7 +144,6 @@ node_takes scope read each room vs x e =
           ∙ ap (λ (t : Words). codes "(" ∷ op_name op ∷ t) (sym (append_assoc (flat_map (term_words scope.letter) g.0.0) (codes ")" ∷ []) h.0.1))
           ∙ ap (λ (t : Words). t ++ h.0.1) (sym (words-Node scope.letter op g.0.0));
       fit = fits-Node scope.width scope.variables op g.0.0 ∙ and_from _ _ count all.fit;
-      operators = operators-Node op g.0.0 ∙ and_from _ _ name.1.1 all.operators;
       room = omega (arith, nodes-Node op g.0.0, all.room);
     })
 
@@ -195,7 +169,6 @@ term_takes scope is (suc fuel) (suc room) ws x e =
           subst (Took scope (left_with (suc room) ws)) (some_is made x g.2) (record {
             spelled = front ∙ ap (λ (t : Words). t ++ vs) given.spelled;
             fit = given.fit;
-            operators = given.operators;
             room = omega (arith, given.one);
           })
     ]
@@ -204,7 +177,7 @@ term_takes scope is (suc fuel) (suc room) ws x e =
 
 -- a term that fits is read from its words, where there is room
 abbrev Reads : Scope → Term → Type 0
-Reads scope t = (fuel room : ℕ) (rest : Words) → fits scope.width scope.variables t ≡ true → operators_pass is_built_operator t ≡ true → nodes t ≤ room → room ≤ fuel →
+Reads scope t = (fuel room : ℕ) (rest : Words) → fits scope.width scope.variables t ≡ true → nodes t ≤ room → room ≤ fuel →
     term_at scope fuel room (term_words scope.letter t ++ rest) ≡ Some (t, left_with (room - nodes t) rest)
 
 numeral_apart : (v : List ℕ) → is_numeral v ≡ true → bytes_eq v (codes "(") ≡ false
@@ -215,15 +188,15 @@ numeral_apart v h =
     ]
 
 leaf_again : (scope : Scope) (t : Term) (v : List ℕ) → term_words scope.letter t ≡ v ∷ [] → bytes_eq v (codes "(") ≡ false → leaf_in scope v ≡ Some t → nodes t ≡ 1 → Reads scope t
-leaf_again scope t v words other leaf one fuel room rest fit operators enough fits =
+leaf_again scope t v words other leaf one fuel room rest fit enough within =
     let some : room ≡ 0 → ⊥ = λ (e : room ≡ 0). omega arith in
     ap (λ (ws : Words). term_at scope fuel room (ws ++ rest)) words
-    ∙ term_leaf scope fuel room (v ∷ rest) v rest some fits refl other
+    ∙ term_leaf scope fuel room (v ∷ rest) v rest some within refl other
     ∙ ap (leaf_with (left_with (room - 1) rest)) leaf
     ∙ ap (λ n. Some (t, left_with (room - n) rest)) (sym one)
 
 const_again : (scope : Scope) → IsScope scope → (c : ℕ) → Reads scope (Const c)
-const_again scope is c fuel room rest fit operators enough fits =
+const_again scope is c fuel room rest fit enough within =
     let below : c < 2 ^ scope.width = ltb-true _ _ (sym (fits-Const scope.width scope.variables c) ∙ fit) in
     let small = narrow scope.width c is.width below in
     let numeral = decimal-is_numeral c small in
@@ -232,10 +205,10 @@ const_again scope is c fuel room rest fit operators enough fits =
     ap (λ b. cond b (cond (nat_lt (number_of (decimal c)) (2 ^ scope.width)) (Some (Const (number_of (decimal c)))) None) (variable_in scope (decimal c))) numeral
     ∙ ap (λ n. cond (nat_lt n (2 ^ scope.width)) (Some (Const n)) None) number
     ∙ ap (λ b. cond b (Some (Const c)) None) (lt-ltb _ _ below) in
-    leaf_again scope (Const c) (decimal c) (words-Const scope.letter c) (numeral_apart (decimal c) numeral) read (nodes-Const c) fuel room rest fit operators enough fits
+    leaf_again scope (Const c) (decimal c) (words-Const scope.letter c) (numeral_apart (decimal c) numeral) read (nodes-Const c) fuel room rest fit enough within
 
 field_again : (scope : Scope) → IsScope scope → (i : ℕ) → Reads scope (Field i)
-field_again scope is i fuel room rest fit operators enough fits =
+field_again scope is i fuel room rest fit enough within =
     let below : i < scope.variables = ltb-true _ _ (sym (fits-Field scope.width scope.variables i) ∙ fit) in
     let small : i < 2 ^ 64 = omega (arith, is.variables) in
     let number = decimal-number_of i small in
@@ -246,36 +219,34 @@ field_again scope is i fuel room rest fit operators enough fits =
     ap (λ b. cond b (cond (nat_lt (number_of (scope.letter ∷ decimal i)) (2 ^ scope.width)) (Some (Const (number_of (scope.letter ∷ decimal i)))) None) (variable_in scope (scope.letter ∷ decimal i))) (no_numeral scope.letter (decimal i) is.letter)
     ∙ ap (λ b. cond b (Some (Field (number_of (decimal i)))) None) test
     ∙ ap (λ n. Some (Field n)) number in
-    leaf_again scope (Field i) (scope.letter ∷ decimal i) (words-Field scope.letter i) (and_left _ _ is.no_opening) read (nodes-Field i) fuel room rest fit operators enough fits
+    leaf_again scope (Field i) (scope.letter ∷ decimal i) (words-Field scope.letter i) (and_left _ _ is.no_opening) read (nodes-Field i) fuel room rest fit enough within
 
-all_again : (scope : Scope) (ts : List Term) → AllByRecursion (Reads scope) ts → (fuel room : ℕ) (rest : Words) → list_all (fits scope.width scope.variables) ts ≡ true → list_all (operators_pass is_built_operator) ts ≡ true →
+all_again : (scope : Scope) (ts : List Term) → AllByRecursion (Reads scope) ts → (fuel room : ℕ) (rest : Words) → list_all (fits scope.width scope.variables) ts ≡ true →
     sum_by nodes ts ≤ room → room ≤ fuel → many never (argument scope fuel) (length ts) (left_with room (flat_map (term_words scope.letter) ts ++ rest)) ≡ Some (ts, left_with (room - sum_by nodes ts) rest)
-all_again scope [] each fuel room rest fit operators enough fits =
+all_again scope [] each fuel room rest fit enough within =
     many_none never (argument scope fuel) (left_with room rest) ∙ ap (λ n. Some ([], left_with n rest)) (let e : room ≡ room - 0 = omega arith in e)
-all_again scope (t ∷ ts) each fuel room rest fit operators enough fits =
+all_again scope (t ∷ ts) each fuel room rest fit enough within =
     let fit_parts = and_parts _ _ fit in
-    let operators_parts = and_parts _ _ operators in
     let sum = sum_by-cons nodes t ts in
     let front = term_words scope.letter t in
     let back = flat_map (term_words scope.letter) ts in
     ap (λ (ws : Words). many never (argument scope fuel) (suc (length ts)) (left_with room ws)) (append_assoc front back rest)
     ∙ many_one never (argument scope fuel) (length ts) (left_with room (front ++ (back ++ rest))) refl
-    ∙ ap (λ r. after_item never (argument scope fuel) r (length ts)) (each.0 fuel room (back ++ rest) fit_parts.0 operators_parts.0 (omega (arith, sum)) fits)
-    ∙ ap (λ r. r >>= λ others. Some (t ∷ others.0, others.1)) (all_again scope ts each.1 fuel (room - nodes t) rest fit_parts.1 operators_parts.1 (omega (arith, sum)) (omega arith))
+    ∙ ap (λ r. after_item never (argument scope fuel) r (length ts)) (each.0 fuel room (back ++ rest) fit_parts.0 (omega (arith, sum)) within)
+    ∙ ap (λ r. r >>= λ others. Some (t ∷ others.0, others.1)) (all_again scope ts each.1 fuel (room - nodes t) rest fit_parts.1 (omega (arith, sum)) (omega arith))
     ∙ ap (λ n. Some (t ∷ ts, left_with n rest)) (let e : room - nodes t - sum_by nodes ts ≡ room - sum_by nodes (t ∷ ts) = omega (arith, sum) in e)
 
 node_again : (scope : Scope) (op : Op) (ts : List Term) → AllByRecursion (Reads scope) ts → Reads scope (Node op ts)
-node_again scope op ts each fuel room rest fit operators enough fits =
-    let fit_parts = and_parts _ _ (sym (fits-Node scope.width scope.variables op ts) ∙ fit) in
-    let operators_parts = and_parts _ _ (sym (operators-Node op ts) ∙ operators) in
+node_again scope op ts each fuel room rest fit enough within =
+    let fit_parts = and_parts (length ts == arity op) (list_all (fits scope.width scope.variables) ts) (sym (fits-Node scope.width scope.variables op ts) ∙ fit) in
     let sum = nodes-Node op ts in
     let some : room ≡ 0 → ⊥ = λ (e : room ≡ 0). omega (arith, sum) in
     let arguments = flat_map (term_words scope.letter) ts in
-    let all = all_again scope ts each (fuel - 1) (room - 1) (codes ")" ∷ rest) fit_parts.1 operators_parts.1 (omega (arith, sum)) (omega arith) in
+    let all = all_again scope ts each (fuel - 1) (room - 1) (codes ")" ∷ rest) fit_parts.1 (omega (arith, sum)) (omega arith) in
     ap (λ (ws : Words). term_at scope fuel room (ws ++ rest)) (words-Node scope.letter op ts)
     ∙ ap (λ (ws : Words). term_at scope fuel room (codes "(" ∷ op_name op ∷ ws)) (append_assoc arguments (codes ")" ∷ []) rest)
-    ∙ term_node scope fuel room (codes "(" ∷ op_name op ∷ (arguments ++ codes ")" ∷ rest)) (codes "(") (op_name op ∷ (arguments ++ codes ")" ∷ rest)) some fits refl refl
-    op (arguments ++ codes ")" ∷ rest) (op_law.again op (arguments ++ codes ")" ∷ rest) (tt, operators_parts.0) tt) (length ts) (eqb-true _ _ fit_parts.0)
+    ∙ term_node scope fuel room (codes "(" ∷ op_name op ∷ (arguments ++ codes ")" ∷ rest)) (codes "(") (op_name op ∷ (arguments ++ codes ")" ∷ rest)) some within refl refl
+    op (arguments ++ codes ")" ∷ rest) (op_law.again op (arguments ++ codes ")" ∷ rest) tt tt) (length ts) (eqb-true _ _ fit_parts.0)
     ∙ closed op _ ts (left_with (room - 1 - sum_by nodes ts) (codes ")" ∷ rest)) rest all ((after_law (codes ")")).again tt rest tt tt)
     ∙ ap (λ n. Some (Node op ts, left_with n rest)) (let e : room - 1 - sum_by nodes ts ≡ room - nodes (Node op ts) = omega (arith, sum) in e)
 
@@ -291,7 +262,7 @@ small_term_law scope is = record {
       let took = term_takes scope is most_nodes most_nodes ws f.0 f.1 in
       let made : Term × Words = (f.0.0, f.0.1.words) in
       subst (λ (y : Term × Words). (ws ≡ term_words scope.letter y.0 ++ y.1) × IsBuiltTerm scope.width scope.variables y.0) (some_is made x f.2)
-      (took.spelled, record { fit = took.fit; operators = took.operators; small = omega (arith, took.room) });
+      (took.spelled, record { fit = took.fit; small = omega (arith, took.room) });
   again = λ t rest built stop.
-      ap (λ r. r >>= λ t. Some (t.0, t.1.words)) (term_again scope is t most_nodes most_nodes rest built.fit built.operators built.small (lit≤ tt));
+      ap (λ r. r >>= λ t. Some (t.0, t.1.words)) (term_again scope is t most_nodes most_nodes rest built.fit built.small (lit≤ tt));
 }

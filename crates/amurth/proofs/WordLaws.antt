@@ -1,5 +1,5 @@
 -- The laws of the pieces of one word.
-use Rattle.std.proofs.Common.{◌≡◌, ℕ, ◌^◌, ◌<◌, ◌≤◌, Bool, true, false, cond, List, [], ◌∷◌, ◌++◌, decimal, Option, Some, None, bytes_eq, find, ap, subst, ◌∙◌, sym, refl, arith, codes, inl, inr, lit<}
+use Rattle.std.proofs.Common.{◌≡◌, ℕ, ◌^◌, ◌<◌, ◌≤◌, Bool, true, cond, List, [], ◌∷◌, decimal, Option, Some, None, bytes_eq, find, ap, subst, ◌∙◌, sym, refl, codes, inl, inr, lit<}
 use Rattle.std.proofs.lemmas.Bool.{cases_Bool}
 use Rattle.std.proofs.lemmas.Option.{cond_some}
 use Rattle.std.proofs.lemmas.Fmt.{decimal_digit}
@@ -8,12 +8,11 @@ use Rattle.am_bv.specs.declared.op.Op.{Op}
 use Rattle.am_bv.specs.declared.op.Op.TheVariants.{Not, Neg, And, Or, Xor, Add, Sub, Mul, Udiv, Urem, Shl, Lshr, Ashr, Eq, Ult, Ule, Slt, Sle, Umin, Umax, Smin, Smax, Ite}
 use Rattle.amurth.specs.declared.problem.Kind.{Kind}
 use Rattle.amurth.specs.declared.problem.Kind.TheVariants.{UInterval, SInterval, KnownBits, Parity, Congruence}
-use Rattle.amurth.specs.Built.{is_built_kind, is_built_operator}
 use Rattle.amurth.specs.Names.{kind_name, op_name}
 use Rattle.amurth.specs.Numerals.{is_name}
 use Rattle.amurth.specs.Reading.{after, all_kinds, all_ops, keyed_number_at, kind_at, mapped, pair, kind_named, name_at, number_at, one_at, op_at, op_named}
 use Rattle.amurth.proofs.NumeralLaws.{number_in-back, number_in-to}
-use Rattle.amurth.proofs.PieceLaws.{IsSpelled, always, mapped_law, only_law, pair_law, some_is, word_law}
+use Rattle.amurth.proofs.PieceLaws.{IsSpelled, always, mapped_law, pair_law, some_is, word_law}
 
 pub same_bytes : (a b : List ℕ) → bytes_eq a b ≡ true → a ≡ b
 same_bytes a b h = (bytes_eq-Decides a b).0 h
@@ -63,13 +62,13 @@ name_of_found_kind : (v : List ℕ) (kind : Kind) → kind_named v ≡ Some kind
 unfolding kind_named
 name_of_found_kind v kind e = sym (same_bytes (kind_name kind) v (found (λ kind. bytes_eq (kind_name kind) v) all_kinds kind e))
 
-pub op_law : IsSpelled op_at (λ op. op_name op ∷ []) (λ op. Unit {0} × (is_built_operator op ≡ true)) always
+pub op_law : IsSpelled op_at (λ op. op_name op ∷ []) (λ _. Unit {0}) always
 unfolding op_at
-op_law = only_law (word_law op_name (λ _. Unit {0}) (λ v op e. (name_of_found_op v op e, tt)) (λ op h. op_named-name op)) is_built_operator
+op_law = word_law op_name (λ _. Unit {0}) (λ v op e. (name_of_found_op v op e, tt)) (λ op h. op_named-name op)
 
-pub kind_law : IsSpelled kind_at (λ kind. kind_name kind ∷ []) (λ kind. Unit {0} × (is_built_kind kind ≡ true)) always
+pub kind_law : IsSpelled kind_at (λ kind. kind_name kind ∷ []) (λ _. Unit {0}) always
 unfolding kind_at
-kind_law = only_law (word_law kind_name (λ _. Unit {0}) (λ v kind e. (name_of_found_kind v kind e, tt)) (λ kind h. kind_named-name kind)) is_built_kind
+kind_law = word_law kind_name (λ _. Unit {0}) (λ v kind e. (name_of_found_kind v kind e, tt)) (λ kind h. kind_named-name kind)
 
 -- a key word, and a piece behind it
 pub keyed_law : {Y : Type 0} {read : List (List ℕ) → Option (Y × List (List ℕ))} {spell : Y → List (List ℕ)} {Good : Y → Type 0} {Stops : List (List ℕ) → Type 0} →

@@ -1,4 +1,4 @@
-pub mod Interval
+pub mod Domains
 pub mod Choices
 pub mod Numbered
 pub mod Asked

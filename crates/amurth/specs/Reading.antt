@@ -1,5 +1,6 @@
--- Reading from left to right, on the words that are left.
-use Rattle.std.specs.Prelude.{◌≡◌, ℕ, zero, suc, ◌^◌, Bool, true, false, ◌&&◌, ◌||◌, not, nat_lt, nat_le, ◌==◌, if◌then◌else◌, List, [], ◌∷◌, length, drop, find, Option, Some, None, Result, Ok, Err, bytes_eq, codes}
+-- Reading from left to right, on the words that are left: a function for each piece, which the code computes. What
+-- reading means is `Reads`, and that these functions read exactly that is proved of them.
+use Rattle.std.specs.Prelude.{◌≡◌, ℕ, zero, suc, ◌^◌, Bool, true, false, ◌&&◌, ◌||◌, not, nat_lt, nat_le, ◌==◌, if◌then◌else◌, List, [], ◌∷◌, find, Option, Some, None, Result, Ok, Err, bytes_eq, codes}
 use Rattle.std.specs.List.{list_all, list_any}
 use Rattle.am_bv.specs.Operators.{arity}
 use Rattle.am_bv.specs.declared.op.Op.{Op}
@@ -16,7 +17,7 @@ use Rattle.amurth.specs.Names.{op_name, kind_name}
 use Rattle.amurth.specs.Numerals.{is_numeral, number_of, is_name}
 use Rattle.amurth.specs.Problem.{Problem, Rule, fields_of, rule_names}
 use Rattle.amurth.specs.Spelling.{input_letter, field_letter}
-use Rattle.amurth.specs.Built.{is_built_operator, is_built_kind, most_nodes, most_productions, most_turns, most_conflicts}
+use Rattle.amurth.specs.Built.{most_nodes, most_productions, most_turns, most_conflicts}
 
 infixl 10 ◌>>=◌
 abbrev pub ◌>>=◌ : {A B : Type 0} → Option A → (A → Option B) → Option B
@@ -113,13 +114,11 @@ op_named word = find (λ op. bytes_eq (op_name op) word) all_ops
 unfoldable pub kind_named : List ℕ → Option Kind
 kind_named word = find (λ kind. bytes_eq (kind_name kind) word) all_kinds
 
--- an operator that is built
 unfoldable pub op_at : Words → Option (Op × Words)
-op_at ws = only is_built_operator (word_as op_named) ws
+op_at ws = word_as op_named ws
 
--- a domain that is built
 unfoldable pub kind_at : Words → Option (Kind × Words)
-kind_at ws = only is_built_kind (word_as kind_named) ws
+kind_at ws = word_as kind_named ws
 
 -- a variable that stands here
 abbrev pub variable_in : Scope → List ℕ → Option Term

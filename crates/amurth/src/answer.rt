@@ -1,19 +1,24 @@
 //! The answer to a problem, as text.
 
-ghost use Rattle.std.specs.Prelude.{◌≡◌, ◌<◌, ◌∷◌, ◌++◌, IfOk, OnOk, codes, decimal, flat_map, map, List};
+ghost use Rattle.std.specs.Prelude.{◌≡◌, ◌<◌, ◌∷◌, ◌++◌, IfOk, OnOk, codes, decimal, flat_map, map, List, MatchOption};
 ghost use Rattle.std.specs.Option.{ForSome};
+ghost use Rattle.am_domain.specs.Question.{IsAbsent, IsBest};
+ghost use Rattle.amurth.specs.Asked.{IsAsked, asked};
+ghost use Rattle.amurth.specs.Domains.{member_of, valid_of};
 ghost use Rattle.amurth.specs.Answer.{IsAnswerOf, term_line, term_text, text_of_best};
 ghost use Rattle.amurth.specs.Built.{IsBuilt};
 ghost use Rattle.amurth.specs.Choices.{tuple_at, tuple_count};
-ghost use Rattle.amurth.specs.Problem.{productions_of};
+ghost use Rattle.amurth.specs.Problem.{fields_of, productions_of};
 ghost use Rattle.amurth.specs.Shown.{problem_of, rules_of};
 
 use crate::choices::{Choices, pick};
 use crate::enumeration::Enumeration;
 use crate::names::op_name;
-use crate::problem::{Problem, Rule};
-use crate::unsigned::Unsigned;
+use crate::problem::{Kind, Problem, Rule};
+use am_bits::{Congruence, Known, Parity};
 use am_bv::Term;
+use am_domain::Domain;
+use am_interval::{Signed, Unsigned};
 use am_text::Writer;
 use std::alloc::{AllocError, Global};
 
@@ -91,15 +96,44 @@ pub fn answer(alloc: Global, problem: &Problem<'_>) -> Result<Vec<u8>, AllocErro
     ensures { IfOk result (λ text. IsAnswerOf (problem_of problem.now) text.items) }
 {
     let choices = choices_of(alloc, &*problem)?;
+    let mut out = Writer::new(alloc);
+    print_best(&mut out, &choices, best_number(&*problem, &choices))?;
+    Ok(out.finish())
+}
+
+/// The number of best terms for a problem, or `None` where no terms are sound.
+fn best_number(problem: &Problem<'_>, choices: &Choices<'_>) -> Option<u64>
+    requires { let p = problem_of problem.now in IsAsked p.width (fields_of p.kind) p.operation choices.now }
+    ensures { let p = problem_of problem.now in
+        let q = asked p.width (fields_of p.kind) p.operation (valid_of p.kind p.width) (member_of p.kind p.width) choices.now in
+        MatchOption result (IsAbsent q) (λ number. (number < tuple_count choices.now) × IsBest q (tuple_at choices.now number)) }
+{
+    match problem.kind {
+        Kind::UInterval => best_number_in(&Unsigned, &*problem, choices),
+        Kind::SInterval => best_number_in(&Signed, &*problem, choices),
+        Kind::KnownBits => best_number_in(&Known, &*problem, choices),
+        Kind::Parity => best_number_in(&Parity, &*problem, choices),
+        Kind::Congruence => best_number_in(&Congruence, &*problem, choices),
+    }
+}
+
+fn best_number_in<D: Domain>(
+    domain: &D,
+    problem: &Problem<'_>,
+    choices: &Choices<'_>,
+) -> Option<u64>
+    requires { IsAsked problem.now.width (D.fields domain.now) problem.now.operation choices.now }
+    ensures { let w = problem.now.width in
+        let q = asked w (D.fields domain.now) problem.now.operation (D.valid domain.now w) (D.member domain.now w) choices.now in
+        MatchOption result (IsAbsent q) (λ number. (number < tuple_count choices.now) × IsBest q (tuple_at choices.now number)) }
+{
     let enumeration = Enumeration {
-        domain: &Unsigned,
+        domain: &*domain,
         width: problem.width,
         operation: &problem.operation,
-        choices: &choices,
+        choices: &*choices,
     };
-    let mut out = Writer::new(alloc);
-    print_best(&mut out, &choices, enumeration.best())?;
-    Ok(out.finish())
+    enumeration.best()
 }
 
 /// Appends the best terms, or that there are no sound ones.

@@ -20,18 +20,21 @@ fn has_rule(rules: &[Rule<'_>], name: &[u8]) -> bool
     rules.iter().any(|rule| name == rule.name)
 }
 
+/// Whether each rule is that of a start.
 fn are_starts(starts: &[&[u8]], rules: &[Rule<'_>]) -> bool
     ensures { result ≡ list_all (λ rule. list_any (λ n. bytes_eq rule.name.now n.now) starts.now) rules.now }
 {
     rules.iter().all(|rule| has_name(starts, rule.name))
 }
 
+/// Whether each start has a rule.
 fn have_rules(starts: &[&[u8]], rules: &[Rule<'_>]) -> bool
     ensures { result ≡ list_all (λ n. list_any (λ rule. bytes_eq n.now rule.name.now) rules.now) starts.now }
 {
     starts.iter().all(|start| has_rule(rules, start))
 }
 
+/// Whether no two rules have one name.
 fn are_distinct(rules: &[Rule<'_>]) -> bool
     ensures { result ≡ are_distinct (rule_names (rules_of rules.now)) }
 {

@@ -17,7 +17,6 @@ mod terms;
 #[cfg(test)]
 mod tests;
 mod top;
-mod unsigned;
 mod words;
 
 use am_io::{StdSink, StdSource};

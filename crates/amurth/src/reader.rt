@@ -64,6 +64,7 @@ fn read_starts<'a>(
     read_names(alloc, text, fields)
 }
 
+/// So many nonterminals.
 fn read_names<'a>(
     alloc: Global,
     text: &mut Cursor<'a>,
@@ -192,6 +193,7 @@ fn read_lines<'a>(alloc: Global, text: &mut Cursor<'a>) -> Result<Problem<'a>, R
 /// `Unbuilt`: the text is no problem's that is built.
 pub fn read_problem<'a>(alloc: Global, text: &'a [u8]) -> Result<Problem<'a>, ReadError>
     ensures ok { IfOk result (λ p. Reads text.now (problem_of p)) }
+    ensures only { IfOk result (λ p. (q : Data) → Reads text.now q → q ≡ problem_of p) }
     ensures unbuilt { result ≡ Err ReadError.Unbuilt → (p : Data) → Reads text.now p → ⊥ }
 {
     let Ok(tokens) = Tokens::new(text) else {

@@ -44,77 +44,75 @@ fn sink_of(alloc: Global, step: usize, failing: u32) -> Result<MemorySink, Alloc
 #[test]
 fn problems_get_their_answers(rt: HostRuntime) -> Result<(), Fail> {
     let alloc = rt.alloc();
+    let unbuilt = "refused Unbuilt 0\n";
     let table = [
         (
-            2,
-            "(not x0)",
+            "2 operation 1 (not x0) domain u-interval start L H",
             "rule L (not f1) (not f0) 0 rule H (not f0) 3",
-            Status::Done,
             COMPLEMENT_ANSWER,
         ),
         (
-            2,
-            "(not x0)",
+            "2 operation 1 (not x0) domain u-interval start L H",
             "rule L rule H 3",
-            Status::Done,
             "answer none\n",
         ),
         (
-            2,
-            "x0",
+            "2 operation 1 x0 domain u-interval start L H",
             "rule L f1 rule H f0",
-            Status::Done,
             "answer none\n",
         ),
         (
-            3,
-            "(add x0 1)",
+            "3 operation 1 (add x0 1) domain u-interval start L H",
             "rule L (add f0 1) 0 rule H (add f1 1) 7",
-            Status::Done,
             "answer best\nterm 0\nterm 7\n",
         ),
         (
-            3,
-            "(or x0 1)",
-            "rule H 7 (or f1 1) rule L 1 f0 (or f0 1)",
-            Status::Done,
-            "answer best\nterm (or f0 1)\nterm (or f1 1)\n",
+            "2 operation 1 (neg x0) domain s-interval start L H",
+            "rule L (neg f1) 2 rule H (neg f0) 1",
+            "answer best\nterm 2\nterm 1\n",
         ),
         (
-            4,
-            "x0",
+            "3 operation 1 (and x0 5) domain known-bits start Z O",
+            "rule O (and f1 5) f1 0 rule Z (or f0 2) f0 0",
+            "answer best\nterm (or f0 2)\nterm (and f1 5)\n",
+        ),
+        (
+            "3 operation 1 (mul x0 x0) domain parity start P",
+            "rule P 3 f0 1",
+            "answer best\nterm f0\n",
+        ),
+        (
+            "3 operation 1 (add x0 3) domain congruence start M R",
+            "rule M f0 0 (and f0 1) rule R (add f1 3) f1",
+            "answer best\nterm f0\nterm (add f1 3)\n",
+        ),
+        (
+            "4 operation 1 x0 domain u-interval start L H",
             "rule L f0 rule H f1",
-            Status::Refused,
-            "refused Unbuilt 0\n",
+            unbuilt,
         ),
         (
-            2,
-            "(add x0 x1)",
+            "2 operation 2 (add x0 x1) domain u-interval start L H",
             "rule L (add f0 f2) 0 rule H (add f1 f3) 3",
-            Status::Refused,
-            "refused Unbuilt 0\n",
+            unbuilt,
         ),
         (
-            2,
-            "x0",
-            "rule L f0 rule M f1",
-            Status::Refused,
-            "refused Unbuilt 0\n",
+            "2 operation 1 x0 domain parity start P P",
+            "rule P f0",
+            unbuilt,
         ),
     ];
-    for (width, operation, rules, status, written) in table {
+    for (problem, rules, written) in table {
         let text = format!(in alloc;
-            "amurth 1 width {width} operation 1 {operation} domain u-interval start L H depth 1 turns 40 conflicts 1 {rules} end"
+            "amurth 1 width {problem} depth 1 turns 40 conflicts 1 {rules} end"
         )?;
         let mut input = source_of(alloc, &text, 1000, 99)?;
         let mut output = sink_of(alloc, 1000, 99)?;
         let words = words_of(alloc, "synth")?;
-        assert_eq!(rt;
-            run(alloc, &words, &mut input, &mut output),
-            status,
-            "{operation}"
-        );
-        assert_eq!(rt; output.taken(), written.as_bytes(), "{operation}");
+        let status = run(alloc, &words, &mut input, &mut output);
+        assert_eq!(rt; status == Status::Refused, written == unbuilt, "{problem}");
+        assert_eq!(rt; status == Status::Done, written != unbuilt, "{problem}");
+        assert_eq!(rt; output.taken(), written.as_bytes(), "{problem}");
     }
     Ok(())
 }

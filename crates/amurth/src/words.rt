@@ -4,7 +4,6 @@ ghost use Rattle.std.specs.Prelude.{◌≡◌, ◌≢◌, ◌≤◌, [], IfOk, M
 ghost use Rattle.am_text.specs.Tokens.{words};
 ghost use Rattle.amurth.specs.Reading.{Takes, after, keyed_number_at, kind_at, name_at, next_is, number_at, one_at, op_at, word_at};
 
-use crate::bounds::{is_built_kind, is_built_operator};
 use crate::problem::Kind;
 use crate::refusal::Refused;
 use crate::{names, numerals};
@@ -68,7 +67,7 @@ pub fn take_number(text: &mut Cursor<'_>, least: u32, most: u32) -> Result<u32, 
     }
 }
 
-/// Takes a key word and a 1.
+/// Takes a key word and a 1, where no other number is built.
 #[tactic(auto, unfolding(crate::specs::Reading::one_at))]
 pub fn take_one(text: &mut Cursor<'_>, key: &[u8]) -> Result<(), Refused>
     ensures { Takes (λ _. 1) result (words text.new) (one_at key.now (words text.old)) }
@@ -105,24 +104,18 @@ pub fn take_name<'a>(text: &mut Cursor<'a>) -> Result<&'a [u8], Refused>
     }
 }
 
-/// Takes the name of an operator that is built.
+/// Takes the name of an operator.
 #[tactic(auto, unfolding(crate::specs::Reading::op_at))]
 pub fn take_op(text: &mut Cursor<'_>) -> Result<Op, Refused>
     ensures { Takes (λ op. op) result (words text.new) (op_at (words text.old)) }
 {
-    match names::op_named(take_word(text)?) {
-        Some(op) if is_built_operator(op) => Ok(op),
-        _ => Err(Refused),
-    }
+    names::op_named(take_word(text)?).ok_or(Refused)
 }
 
-/// Takes the name of a domain that is built.
+/// Takes the name of a domain.
 #[tactic(auto, unfolding(crate::specs::Reading::kind_at))]
 pub fn take_kind(text: &mut Cursor<'_>) -> Result<Kind, Refused>
     ensures { Takes (λ kind. kind) result (words text.new) (kind_at (words text.old)) }
 {
-    match names::kind_named(take_word(text)?) {
-        Some(kind) if is_built_kind(kind) => Ok(kind),
-        _ => Err(Refused),
-    }
+    names::kind_named(take_word(text)?).ok_or(Refused)
 }

@@ -1,6 +1,7 @@
 use super::*;
 use am_bv::Op;
 use std::alloc::AllocError;
+use std::process::Abort;
 use std::test::*;
 
 /// The lines of a problem whose best transformer is the complement of the ends, in the other order.
@@ -34,17 +35,23 @@ fn text_with(alloc: Global, from: usize, to: usize, lines: &[u8]) -> Result<Vec<
     Ok(text)
 }
 
-fn is_refused(alloc: Global, text: &[u8]) -> bool {
-    matches!(read_problem(alloc, text), Err(ReadError::Unbuilt))
+/// Each of these lines in the place of one of the problem's makes no problem that is built.
+fn refuses(rt: &impl Abort, alloc: Global, number: usize, lines: &[&[u8]]) -> Result<(), Fail> {
+    for line in lines {
+        let text = text_with(alloc, number, number, line)?;
+        let answer = read_problem(alloc, &text);
+        assert!(rt; matches!(answer, Err(ReadError::Unbuilt)), "{line:?}");
+    }
+    Ok(())
 }
 
-fn is_refused_with(alloc: Global, number: usize, lines: &[u8]) -> Result<bool, Fail> {
-    Ok(is_refused(alloc, &text_with(alloc, number, number, lines)?))
-}
-
-fn is_read_with(alloc: Global, number: usize, lines: &[u8]) -> Result<bool, Fail> {
-    let text = text_with(alloc, number, number, lines)?;
-    Ok(read_problem(alloc, &text).is_ok())
+/// Each of these lines in the place of one of the problem's makes a problem.
+fn reads(rt: &impl Abort, alloc: Global, number: usize, lines: &[&[u8]]) -> Result<(), Fail> {
+    for line in lines {
+        let text = text_with(alloc, number, number, line)?;
+        assert!(rt; read_problem(alloc, &text).is_ok(), "{line:?}");
+    }
+    Ok(())
 }
 
 fn complement_of(alloc: Global, field: u32) -> Result<Term, AllocError> {
@@ -82,93 +89,150 @@ fn complement(rt: HostRuntime) -> Result<(), Fail> {
 #[test]
 fn other_problems(rt: HostRuntime) -> Result<(), Fail> {
     let alloc = rt.alloc();
-    let swapped_ends =
-        b"operation 1 x0\ndomain u-interval\nstart L H\ndepth 1\nturns 40\nconflicts 100000\nrule L f1\nrule H f0\n";
-    assert!(rt; read_problem(alloc, &text_with(alloc, 2, 9, swapped_ends)?).is_ok());
-    let incomparable =
-        b"operation 1 x0\ndomain u-interval\nstart L H\ndepth 1\nturns 40\nconflicts 100000\nrule L (and f0 1) (and f0 2)\nrule H f1\n";
-    assert!(rt; read_problem(alloc, &text_with(alloc, 2, 9, incomparable)?).is_ok());
-    let one_start = b"start S S\ndepth 1\nturns 0\nconflicts 1\nrule S f0\n";
-    assert!(rt; read_problem(alloc, &text_with(alloc, 4, 9, one_start)?).is_ok());
+    let swapped_ends = b"rule L f1\nrule H f0\n";
+    assert!(rt; read_problem(alloc, &text_with(alloc, 8, 9, swapped_ends)?).is_ok());
+    let incomparable = b"rule L (and f0 1) (and f0 2)\nrule H f1\n";
+    assert!(rt; read_problem(alloc, &text_with(alloc, 8, 9, incomparable)?).is_ok());
+    let one_rule = b"start S S\ndepth 1\nturns 0\nconflicts 1\nrule S f0\n";
+    assert!(rt; read_problem(alloc, &text_with(alloc, 4, 9, one_rule)?).is_ok());
+    assert!(rt; matches!(read_problem(alloc, b""), Err(ReadError::Unbuilt)));
     Ok(())
 }
 
 #[test]
-fn greatest_numbers(rt: HostRuntime) -> Result<(), Fail> {
+fn headers(rt: HostRuntime) -> Result<(), Fail> {
     let alloc = rt.alloc();
-    assert!(rt; is_read_with(alloc, 1, b"width 3\n")?);
-    assert!(rt; is_refused_with(alloc, 1, b"width 4\n")?);
-    assert!(rt; is_refused_with(alloc, 1, b"width 1\n")?);
-    assert!(rt; is_read_with(alloc, 6, b"turns 200\n")?);
-    assert!(rt; is_refused_with(alloc, 6, b"turns 201\n")?);
-    assert!(rt; is_refused_with(alloc, 6, b"turns 007\n")?);
-    assert!(rt; is_read_with(alloc, 7, b"conflicts 1000000\n")?);
-    assert!(rt; is_refused_with(alloc, 7, b"conflicts 1000001\n")?);
-    assert!(rt; is_refused_with(alloc, 7, b"conflicts 0\n")?);
-    assert!(rt; is_refused_with(alloc, 5, b"depth 2\n")?);
+    refuses(
+        &rt,
+        alloc,
+        0,
+        &[b"amurth 2\n", b"amurth 01\n", b"1 amurth\n"],
+    )?;
+    reads(&rt, alloc, 1, &[b"width 3\n", b"width\n\n 2 "])?;
+    refuses(
+        &rt,
+        alloc,
+        1,
+        &[b"width 4\n", b"width 1\n", b"width -2\n", b"width two\n"],
+    )?;
+    refuses(
+        &rt,
+        alloc,
+        2,
+        &[
+            b"operation 2 (add x0 x1)\n",
+            b"operation 1 (add x0 x1)\n",
+            b"operation 1 f0\n",
+        ],
+    )?;
+    refuses(&rt, alloc, 3, &[b"domain parity\n", b"domain interval\n"])?;
+    refuses(
+        &rt,
+        alloc,
+        4,
+        &[b"start L\n", b"start L H L\n", b"start L h\n"],
+    )?;
     Ok(())
 }
 
 #[test]
-fn terms(rt: HostRuntime) -> Result<(), Fail> {
+fn budgets(rt: HostRuntime) -> Result<(), Fail> {
     let alloc = rt.alloc();
-    assert!(rt;
-        is_read_with(
-            alloc,
-            9,
-            b"rule H (not (not (not (not (not (not (not f0)))))))\n"
-        )?
-    );
-    assert!(rt;
-        is_refused_with(
-            alloc,
-            9,
-            b"rule H (not (not (not (not (not (not (not (not f0))))))))\n"
-        )?
-    );
-    assert!(rt; is_read_with(alloc, 9, b"rule H (or f0 (add 3 f1))\n")?);
-    assert!(rt; is_refused_with(alloc, 9, b"rule H (or f0)\n")?);
-    assert!(rt; is_refused_with(alloc, 9, b"rule H (or f0 f1 f0)\n")?);
-    assert!(rt; is_refused_with(alloc, 9, b"rule H (xor f0 f1)\n")?);
-    assert!(rt; is_refused_with(alloc, 9, b"rule H (not L)\n")?);
-    assert!(rt; is_refused_with(alloc, 9, b"rule H (not f0\n")?);
-    assert!(rt; is_refused_with(alloc, 9, b"rule H f2\n")?);
-    assert!(rt; is_refused_with(alloc, 9, b"rule H f00\n")?);
-    assert!(rt; is_refused_with(alloc, 9, b"rule H x0\n")?);
-    assert!(rt; is_refused_with(alloc, 9, b"rule H 4\n")?);
-    assert!(rt; is_refused_with(alloc, 2, b"operation 2 (add x0 x1)\n")?);
-    assert!(rt; is_refused_with(alloc, 2, b"operation 1 (add x0 x1)\n")?);
+    refuses(&rt, alloc, 5, &[b"depth 2\n", b"depth 0\n"])?;
+    reads(&rt, alloc, 6, &[b"turns 200\n", b"turns 0\n"])?;
+    refuses(
+        &rt,
+        alloc,
+        6,
+        &[
+            b"turns 201\n",
+            b"turns 007\n",
+            b"turns 18446744073709551616\n",
+        ],
+    )?;
+    reads(&rt, alloc, 7, &[b"conflicts 1000000\n", b"conflicts 1\n"])?;
+    refuses(&rt, alloc, 7, &[b"conflicts 1000001\n", b"conflicts 0\n"])?;
     Ok(())
 }
 
 #[test]
 fn rules(rt: HostRuntime) -> Result<(), Fail> {
     let alloc = rt.alloc();
-    assert!(rt; is_read_with(alloc, 8, b"rule L\n")?);
-    assert!(rt; is_read_with(alloc, 9, b"rule H 0 1 2 3 0 1 2 3\n")?);
-    assert!(rt; is_refused_with(alloc, 9, b"rule H 0 1 2 3 0 1 2 3 0\n")?);
-    assert!(rt; is_refused_with(alloc, 9, b"")?);
-    assert!(rt; is_refused_with(alloc, 9, b"rule L 3\n")?);
-    assert!(rt; is_refused_with(alloc, 9, b"rule M 3\n")?);
-    assert!(rt; is_refused_with(alloc, 9, b"rule H 3\nrule M 3\n")?);
-    assert!(rt; is_refused_with(alloc, 9, b"rule H 3\nrule L 3\n")?);
-    assert!(rt; is_refused_with(alloc, 4, b"start L\n")?);
-    assert!(rt; is_refused_with(alloc, 4, b"start L H L\n")?);
-    assert!(rt; is_refused_with(alloc, 4, b"start L h\n")?);
-    assert!(rt; is_refused_with(alloc, 3, b"domain parity\n")?);
-    assert!(rt; is_refused_with(alloc, 3, b"domain interval\n")?);
+    reads(&rt, alloc, 8, &[b"rule L\n"])?;
+    reads(&rt, alloc, 9, &[b"rule H 0 1 2 3 0 1 2 3\n"])?;
+    refuses(
+        &rt,
+        alloc,
+        9,
+        &[
+            b"rule H 0 1 2 3 0 1 2 3 0\n",
+            b"",
+            b"rule L 3\n",
+            b"rule M 3\n",
+        ],
+    )?;
+    refuses(
+        &rt,
+        alloc,
+        9,
+        &[b"rule H 3\nrule M 3\n", b"rule H 3\nrule L 3\n"],
+    )?;
+    reads(&rt, alloc, 10, &[b" end"])?;
+    refuses(&rt, alloc, 10, &[b"", b"end end\n", b"end\t\n"])?;
     Ok(())
 }
 
 #[test]
-fn texts(rt: HostRuntime) -> Result<(), Fail> {
+fn terms(rt: HostRuntime) -> Result<(), Fail> {
     let alloc = rt.alloc();
-    assert!(rt; is_refused(alloc, b""));
-    assert!(rt; is_refused_with(alloc, 10, b"")?);
-    assert!(rt; is_refused_with(alloc, 10, b"end end\n")?);
-    assert!(rt; is_refused_with(alloc, 10, b"end\t\n")?);
-    assert!(rt; is_refused_with(alloc, 0, b"amurth 2\n")?);
-    assert!(rt; is_read_with(alloc, 10, b" end")?);
-    assert!(rt; is_read_with(alloc, 1, b"width\n\n 2 ")?);
+    reads(
+        &rt,
+        alloc,
+        9,
+        &[
+            b"rule H (not (not (not (not (not (not (not f0)))))))\n",
+            b"rule H (or f0 (add 3 f1))\n",
+            b"rule H (ite f0 f1 (sle f0 3))\n",
+        ],
+    )?;
+    refuses(
+        &rt,
+        alloc,
+        9,
+        &[b"rule H (not (not (not (not (not (not (not (not f0))))))))\n"],
+    )?;
+    refuses(
+        &rt,
+        alloc,
+        9,
+        &[
+            b"rule H (or f0)\n",
+            b"rule H (or f0 f1 f0)\n",
+            b"rule H (nand f0 f1)\n",
+        ],
+    )?;
+    refuses(
+        &rt,
+        alloc,
+        9,
+        &[
+            b"rule H (not L)\n",
+            b"rule H (not f0\n",
+            b"rule H not f0\n",
+            b"rule H ()\n",
+        ],
+    )?;
+    refuses(
+        &rt,
+        alloc,
+        9,
+        &[
+            b"rule H f2\n",
+            b"rule H f00\n",
+            b"rule H f\n",
+            b"rule H x0\n",
+            b"rule H 4\n",
+        ],
+    )?;
     Ok(())
 }

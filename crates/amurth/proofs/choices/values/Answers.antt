@@ -1,6 +1,6 @@
-use Rattle.std.proofs.Common.{◌+◌, IsTrue, length, map}
-use Rattle.am_bv.specs.Terms.{val, fits}
-use Rattle.amurth.proofs.Picking.{Picked-some, Picked-next, rows_from, rows_from-next, picked-All}
+use Rattle.std.proofs.Common.{IsTrue, length}
+use Rattle.am_bv.specs.Terms.{fits}
+use Rattle.amurth.proofs.Picking.{Picked-some, rows_from-next, picked-All}
 use Rattle.amurth.proofs.choices.values.Goals as goal
 
 pub pick-requires : goal.pick-requires

@@ -1,4 +1,4 @@
-use Rattle.std.proofs.Common.{◌≡◌, ◌+◌, length, length-append, arith, ap, ◌∙◌}
+use Rattle.std.proofs.Common.{length-append, arith, ◌∙◌}
 use Rattle.amurth.proofs.Numbering.{words_at-next}
 use Rattle.amurth.proofs.enumeration.tuple_of_number.Goals as goal
 

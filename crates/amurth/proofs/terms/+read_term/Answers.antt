@@ -1,11 +1,11 @@
-use Rattle.std.proofs.Common.{◌≡◌, ◌+◌, ◌-◌, ◌≤◌, ◌++◌, ◌∷◌, [], ap, sym, subst, ◌∙◌, refl, arith, Err}
+use Rattle.std.proofs.Common.{◌≡◌, ◌-◌, ap, subst, ◌∙◌, refl, arith, Err}
 use Rattle.std.specs.Option.{ok_or}
 use Rattle.std.proofs.lemmas.Result.{err_from_is_err_and}
 use Rattle.am_text.specs.Tokens.{words}
 use Rattle.amurth.specs.declared.refusal.ReadError.TheVariants.{Unbuilt}
 use Rattle.amurth.specs.Reading.{many, never}
 use Rattle.amurth.proofs.Loops.{fails_gives, fails_on, full, goes_on}
-use Rattle.amurth.proofs.TermSteps.{alike, apart, argument, closed, closed_by, closed_fails, leaf_gives, left_with, not_closed, term_leaf, term_node}
+use Rattle.amurth.proofs.TermSteps.{alike, apart, argument, closed, closed_fails, leaf_gives, left_with, not_closed, term_leaf, term_node}
 use Rattle.amurth.proofs.terms.+read_term.Goals as goal
 
 pub returns-then-ne-clause-term : goal.returns-then-ne-clause-term

@@ -1,6 +1,5 @@
-use Rattle.std.proofs.Common.{◌≡◌, ◌≢◌, inl, sym, subst}
+use Rattle.std.proofs.Common.{◌≢◌, inl, sym, subst}
 use Rattle.amurth.specs.Answer.{IsAnswerOf}
-use Rattle.amurth.specs.Run.{IsAnswer}
 use Rattle.amurth.specs.Shown.{problem_of}
 use Rattle.amurth.specs.declared.status.Status.TheVariants.{WriteFault}
 use Rattle.amurth.proofs.top.respond.Goals as goal

@@ -1,0 +1,6 @@
+pub mod Nodes
+pub mod KnownBits
+pub mod Parities
+pub mod Congruences
+pub mod Theorems
+pub mod lemmas

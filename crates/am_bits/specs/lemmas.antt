@@ -1,0 +1,7 @@
+pub mod Bits
+pub mod Masks
+pub mod Tuples
+pub mod Terms
+pub mod KnownLaws
+pub mod ParityLaws
+pub mod CongruenceLaws

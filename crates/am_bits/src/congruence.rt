@@ -1,0 +1,122 @@
+ghost use Rattle.std.specs.Prelude.{◌≡◌};
+ghost use Rattle.am_bits.specs.Congruences.{IsCongruence, IsCongruent, low, modulo, congruence_top, congruence_of_word, residue, congruence_join, congruence_tidy, congruence_rank, congruence_valid_term, congruence_member_term};
+ghost use Rattle.am_bits.specs.lemmas.CongruenceLaws as laws;
+
+use crate::node::{binary, unary};
+use crate::tuple::pair;
+use am_bv::{Op, Term, Width};
+use am_domain::{Domain, Fields};
+use std::alloc::{AllocError, Global};
+
+/// Congruences modulo powers of two, as two words: the modulus less 1, which is a mask of low bits,
+/// and the residue.
+#[derive(Clone, Copy, PartialEq, Eq, Debug)]
+pub struct Congruence;
+
+impl Domain for Congruence {
+    ghost fields = { λ _. 2 };
+
+    ghost valid = { λ _. IsCongruence };
+
+    ghost member = { λ _ w. IsCongruent };
+
+    ghost top = { λ _ w. congruence_top };
+
+    ghost of_word = { λ _. congruence_of_word };
+
+    ghost some_member = { λ _ w. residue };
+
+    ghost join = { λ _. congruence_join };
+
+    ghost tidy = { λ _ w. congruence_tidy };
+
+    ghost rank = { λ _ w. congruence_rank };
+
+    ghost valid_term = { λ _ w. congruence_valid_term };
+
+    ghost member_term = { λ _ w. congruence_member_term };
+
+    fn fields(&self) -> u32 {
+        2
+    }
+
+    fn valid(&self, _w: Width, a: &Fields) -> bool {
+        let mask = a.get(0);
+        mask & mask.wrapping_add(1) == 0 && a.get(1) <= mask
+    }
+
+    fn contains(&self, _w: Width, a: &Fields, c: u8) -> bool {
+        (c ^ a.get(1)) & a.get(0) == 0
+    }
+
+    fn top(&self, _w: Width) -> Fields {
+        pair(0, 0)
+    }
+
+    fn of_word(&self, w: Width, c: u8) -> Fields {
+        pair(w.mask(), c)
+    }
+
+    fn some_member(&self, _w: Width, a: &Fields) -> u8 {
+        a.get(1)
+    }
+
+    fn join(&self, _w: Width, a: &Fields, b: &Fields) -> Fields {
+        let differing = a.get(1) ^ b.get(1);
+        modulo(low(a.get(0) & b.get(0) & !differing), a.get(1))
+    }
+
+    fn tidy(&self, _w: Width, raw: &Fields) -> Option<Fields> {
+        Some(modulo(low(raw.get(0)), raw.get(1)))
+    }
+
+    fn rank(&self, _w: Width, a: &Fields) -> u32 {
+        a.get(0).count_ones()
+    }
+
+    fn valid_term(&self, alloc: Global, _w: Width) -> Result<Term, AllocError> {
+        let next = binary(alloc, Op::Add, Term::Field(0), Term::Const(1))?;
+        let common = binary(alloc, Op::And, Term::Field(0), next)?;
+        let masked = binary(alloc, Op::Eq, common, Term::Const(0))?;
+        let outside = unary(alloc, Op::Not, Term::Field(0))?;
+        let above = binary(alloc, Op::And, Term::Field(1), outside)?;
+        let within = binary(alloc, Op::Eq, above, Term::Const(0))?;
+        binary(alloc, Op::And, masked, within)
+    }
+
+    fn member_term(&self, alloc: Global, _w: Width) -> Result<Term, AllocError> {
+        let differing = binary(alloc, Op::Xor, Term::Field(2), Term::Field(1))?;
+        let masked = binary(alloc, Op::And, differing, Term::Field(0))?;
+        binary(alloc, Op::Eq, masked, Term::Const(0))
+    }
+
+    ghost has_members = { λ _. laws.has_members };
+
+    ghost has_top = { λ _. laws.has_top };
+
+    ghost holds_words = { λ _. laws.holds_words };
+
+    ghost joins_above = { λ _. laws.joins_above };
+
+    ghost descends = { λ _. laws.descends };
+
+    ghost tidies = { λ _. laws.tidies };
+
+    ghost tells_validity = { λ _. laws.tells_validity };
+
+    ghost tells_membership = { λ _. laws.tells_membership };
+}
+
+/// The residue of a number modulo a mask.
+fn modulo(mask: u8, number: u8) -> Fields
+    ensures { result ≡ modulo mask number }
+{
+    pair(mask, number & mask)
+}
+
+/// The greatest number 2^j - 1 whose bits are all in `x`.
+fn low(x: u8) -> u8
+    ensures { result ≡ low x }
+{
+    ((1u16 << x.trailing_ones()) - 1) as u8
+}

@@ -1,0 +1,108 @@
+ghost use Rattle.am_bits.specs.KnownBits.{IsKnown, HasKnown, known_top, known_of_word, ones, known_join, known_tidy, known_rank, known_valid_term, known_member_term};
+ghost use Rattle.am_bits.specs.lemmas.KnownLaws as laws;
+
+use crate::node::binary;
+use crate::tuple::pair;
+use am_bv::{Op, Term, Width};
+use am_domain::{Domain, Fields};
+use std::alloc::{AllocError, Global};
+
+/// The known bits of words, as two words: the bits that are 0 and the bits that are 1.
+#[derive(Clone, Copy, PartialEq, Eq, Debug)]
+pub struct Known;
+
+impl Domain for Known {
+    ghost fields = { λ _. 2 };
+
+    ghost valid = { λ _ w. IsKnown };
+
+    ghost member = { λ _ w. HasKnown };
+
+    ghost top = { λ _ w. known_top };
+
+    ghost of_word = { λ _. known_of_word };
+
+    ghost some_member = { λ _ w. ones };
+
+    ghost join = { λ _ w. known_join };
+
+    ghost tidy = { λ _ w. known_tidy };
+
+    ghost rank = { λ _ w. known_rank };
+
+    ghost valid_term = { λ _ w. known_valid_term };
+
+    ghost member_term = { λ _ w. known_member_term };
+
+    fn fields(&self) -> u32 {
+        2
+    }
+
+    fn valid(&self, _w: Width, a: &Fields) -> bool {
+        a.get(0) & a.get(1) == 0
+    }
+
+    fn contains(&self, _w: Width, a: &Fields, c: u8) -> bool {
+        let ones = a.get(1);
+        c & a.get(0) == 0 && c & ones == ones
+    }
+
+    fn top(&self, _w: Width) -> Fields {
+        pair(0, 0)
+    }
+
+    fn of_word(&self, w: Width, c: u8) -> Fields {
+        pair(w.mask() - c, c)
+    }
+
+    fn some_member(&self, _w: Width, a: &Fields) -> u8 {
+        a.get(1)
+    }
+
+    fn join(&self, _w: Width, a: &Fields, b: &Fields) -> Fields {
+        pair(a.get(0) & b.get(0), a.get(1) & b.get(1))
+    }
+
+    fn tidy(&self, _w: Width, raw: &Fields) -> Option<Fields> {
+        let zeros = raw.get(0);
+        let ones = raw.get(1);
+        if zeros & ones == 0 {
+            Some(pair(zeros, ones))
+        } else {
+            None
+        }
+    }
+
+    fn rank(&self, _w: Width, a: &Fields) -> u32 {
+        a.get(0).count_ones() + a.get(1).count_ones()
+    }
+
+    fn valid_term(&self, alloc: Global, _w: Width) -> Result<Term, AllocError> {
+        let common = binary(alloc, Op::And, Term::Field(0), Term::Field(1))?;
+        binary(alloc, Op::Eq, common, Term::Const(0))
+    }
+
+    fn member_term(&self, alloc: Global, _w: Width) -> Result<Term, AllocError> {
+        let zeros = binary(alloc, Op::And, Term::Field(2), Term::Field(0))?;
+        let clear = binary(alloc, Op::Eq, zeros, Term::Const(0))?;
+        let ones = binary(alloc, Op::And, Term::Field(2), Term::Field(1))?;
+        let set = binary(alloc, Op::Eq, ones, Term::Field(1))?;
+        binary(alloc, Op::And, clear, set)
+    }
+
+    ghost has_members = { λ _. laws.has_members };
+
+    ghost has_top = { λ _. laws.has_top };
+
+    ghost holds_words = { λ _. laws.holds_words };
+
+    ghost joins_above = { λ _. laws.joins_above };
+
+    ghost descends = { λ _. laws.descends };
+
+    ghost tidies = { λ _. laws.tidies };
+
+    ghost tells_validity = { λ _. laws.tells_validity };
+
+    ghost tells_membership = { λ _. laws.tells_membership };
+}
