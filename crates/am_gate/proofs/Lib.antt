@@ -1,0 +1,10 @@
+pub mod Opposites
+pub mod Sorting
+pub mod Rows
+pub mod Normals
+pub mod Meaning
+pub mod Extends
+pub mod Determined
+pub mod Growth
+pub mod Building
+pub mod Scoping

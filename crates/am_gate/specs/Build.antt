@@ -1,0 +1,69 @@
+-- How circuits are put together: steps, which ask for inputs and gates and state clauses, one after
+-- another.
+use Rattle.std.specs.Prelude.{ℕ, ◌≡◌, ◌+◌, Bool, false, List, [], ◌∷◌, ◌++◌, IsTrue}
+use Rattle.am_lit.specs.Literal.{literal_of}
+use Rattle.am_gate.specs.Circuit.{Event, Event.Input, Event.And, Event.Xor, Event.Mux, Event.Clause, Net, makes, built, AreScoped}
+use Rattle.am_gate.specs.Value.{Meets}
+
+-- where a step begins: the next variable
+pub record Place : Type 0 where
+  pub next : ℕ
+
+-- what a step gives, and the events that it makes
+pub record Made (A : Type 0) : Type 0 where
+  pub value : A
+  pub events : List Event
+
+abbrev pub Step : Type 0 → Type 0
+Step A = Place → Made A
+
+-- the place behind events
+unfoldable pub past : Place → List Event → Place
+past p [] = p
+past p (e ∷ es) = past (record p { next = p.next + makes e }) es
+
+infixl 10 ◌>>=◌
+unfoldable pub ◌>>=◌ : {A B : Type 0} → Step A → (A → Step B) → Step B
+(m >>= f) p =
+    let first = m p in
+    let second = f first.value (past p first.events) in
+    record { value = second.value; events = first.events ++ second.events }
+
+unfoldable pub answer : {A : Type 0} → A → Step A
+answer a p = record { value = a; events = [] }
+
+-- an input or a gate: the literal of its variable
+unfoldable pub ask : Event → Step ℕ
+ask e p = record { value = literal_of p.next false; events = e ∷ [] }
+
+-- a clause that is forced to hold
+unfoldable pub tell : List ℕ → Step (Unit {0})
+tell literals p = record { value = tt; events = Clause literals ∷ [] }
+
+abbrev pub place_of : Net → Place
+place_of n = record { next = n.vars }
+
+-- a call gave what a step gives, and made what it makes
+unfoldable pub Follows : {A : Type 0} → Step A → Net → A → Net → Type 0
+Follows m old result new =
+    (result ≡ (m (place_of old)).value) × (new ≡ built old (m (place_of old)).events)
+
+-- wherever variable 0 is true and the events of the step are met, its value is as P says
+unfoldable pub Means : {A : Type 0} → (ℕ → Bool) → Step A → (A → Type 0) → Type 0
+Means v m P = (p : Place) → IsTrue (v 0) → Meets v p.next (m p).events → P (m p).value
+
+-- the events are gates: no input, and no clause
+abbrev pub AreGates : List Event → Type 0
+AreGates [] = Unit {0}
+AreGates (Input ∷ es) = ⊥
+AreGates (And a b ∷ es) = AreGates es
+AreGates (Xor a b ∷ es) = AreGates es
+AreGates (Mux c a b ∷ es) = AreGates es
+AreGates (Clause literals ∷ es) = ⊥
+
+-- the step makes gates, each over earlier variables, and Q says where its value stands
+unfoldable pub Scopes : {A : Type 0} → Step A → Place → (Place → A → Type 0) → Type 0
+Scopes m p Q =
+    AreScoped p.next (m p).events
+    × AreGates (m p).events
+    × Q (past p (m p).events) (m p).value

@@ -1,0 +1,193 @@
+ghost use Rattle.std.specs.Prelude.{◌≡◌, ℕ, ◌↔◌, Bool, false, List, [], ◌∷◌, All, IsTrue, IfOk, OnOk, OnErr};
+ghost use Rattle.am_lit.specs.Literal.{literal_of};
+ghost use Rattle.am_lit.specs.Truth.{Satisfies};
+ghost use Rattle.am_lit.specs.UnitRow.{Determines};
+ghost use Rattle.am_gate.specs.Circuit.{Net, Event, Event.Input, Event.And, Event.Xor, Event.Mux, start, truth, added, built, inputs_of, AreScoped, IsIn, HasRoom, Grows, Begins};
+ghost use Rattle.am_gate.specs.Value.{Meets};
+ghost use Rattle.am_gate.specs.Build.{ask, tell, Follows};
+
+use crate::sorted::SortedClauses;
+use am_lit::{Formula, Lit};
+use std::alloc::{AllocError, Global};
+use std::marker::Model;
+
+/// A circuit: variables that are inputs or gates, and the clauses that say so. Contracts see its
+/// number of variables and its clauses.
+#[derive(Drop)]
+pub struct Circuit {
+    clauses: SortedClauses,
+    vars: u32,
+}
+
+impl Model for Circuit {
+    ghost use Rattle.am_gate.specs.Circuit.{Net, IsCircuit};
+
+    ghost Value = { Net };
+
+    ghost view = { λ c. record { vars = c.vars; clauses = c.clauses } };
+
+    ghost invariant = { λ c. IsCircuit (record { vars = c.vars; clauses = c.clauses }) };
+}
+
+impl Circuit {
+    /// A circuit of one variable, which is forced to be true.
+    pub fn new(alloc: Global) -> Result<Circuit, AllocError>
+        ensures { IfOk result (λ c. c ≡ start) }
+    {
+        let mut clauses = SortedClauses::new(alloc);
+        clauses.add(&[Lit::new(0, false)])?;
+        Ok(Circuit { clauses, vars: 1 })
+    }
+
+    /// The literal that is true.
+    pub fn truth(&self) -> Lit
+        ensures truth { result ≡ truth }
+        ensures inside { IsIn self.now result }
+    {
+        prove!(0 < self.vars);
+        Lit::new(0, false)
+    }
+
+    /// Makes an input: a variable that may have either value.
+    pub fn input(&mut self) -> Result<Lit, AllocError>
+        requires { HasRoom 1 self.old }
+        ensures ok { IfOk result (λ g. Follows (ask Input) self.old g self.new) }
+        ensures inside { IfOk result (IsIn self.new) }
+        ensures grows { OnOk result (Grows 1 self.old self.new) }
+        ensures err { OnErr result (self.new ≡ self.old) }
+        ensures begins { Begins self.old self.new }
+    {
+        let g = self.next();
+        self.vars += 1;
+        Ok(g)
+    }
+
+    /// Makes a gate that is true where both literals are.
+    pub fn and(&mut self, a: Lit, b: Lit) -> Result<Lit, AllocError>
+        requires room { HasRoom 1 self.old }
+        requires first { IsIn self.old a }
+        requires second { IsIn self.old b }
+        ensures ok { IfOk result (λ g. Follows (ask (And a b)) self.old g self.new) }
+        ensures inside { IfOk result (IsIn self.new) }
+        ensures grows { OnOk result (Grows 1 self.old self.new) }
+        ensures err { OnErr result (self.new ≡ self.old) }
+        ensures begins { Begins self.old self.new }
+    {
+        let g = self.next();
+        self.clauses.add_all(&[
+            &[a, g.opposite()],
+            &[b, g.opposite()],
+            &in_order(a.opposite(), b.opposite(), g),
+        ])?;
+        self.vars += 1;
+        Ok(g)
+    }
+
+    /// Makes a gate that is true where the literals differ.
+    pub fn xor(&mut self, a: Lit, b: Lit) -> Result<Lit, AllocError>
+        requires room { HasRoom 1 self.old }
+        requires first { IsIn self.old a }
+        requires second { IsIn self.old b }
+        ensures ok { IfOk result (λ g. Follows (ask (Xor a b)) self.old g self.new) }
+        ensures inside { IfOk result (IsIn self.new) }
+        ensures grows { OnOk result (Grows 1 self.old self.new) }
+        ensures err { OnErr result (self.new ≡ self.old) }
+        ensures begins { Begins self.old self.new }
+    {
+        let g = self.next();
+        self.clauses.add_all(&[
+            &in_order(a, b, g.opposite()),
+            &in_order(a.opposite(), b.opposite(), g.opposite()),
+            &in_order(a.opposite(), b, g),
+            &in_order(a, b.opposite(), g),
+        ])?;
+        self.vars += 1;
+        Ok(g)
+    }
+
+    /// Makes a gate that has the value of a where c is true, and the value of b where it is false.
+    pub fn mux(&mut self, c: Lit, a: Lit, b: Lit) -> Result<Lit, AllocError>
+        requires room { HasRoom 1 self.old }
+        requires choice { IsIn self.old c }
+        requires first { IsIn self.old a }
+        requires second { IsIn self.old b }
+        ensures ok { IfOk result (λ g. Follows (ask (Mux c a b)) self.old g self.new) }
+        ensures inside { IfOk result (IsIn self.new) }
+        ensures grows { OnOk result (Grows 1 self.old self.new) }
+        ensures err { OnErr result (self.new ≡ self.old) }
+        ensures begins { Begins self.old self.new }
+    {
+        let g = self.next();
+        self.clauses.add_all(&[
+            &in_order(c.opposite(), a.opposite(), g),
+            &in_order(c.opposite(), a, g.opposite()),
+            &in_order(c, b.opposite(), g),
+            &in_order(c, b, g.opposite()),
+        ])?;
+        self.vars += 1;
+        Ok(g)
+    }
+
+    /// Forces a literal to be true.
+    pub fn force(&mut self, l: Lit) -> Result<(), AllocError>
+        requires room { HasRoom 1 self.old }
+        requires literal { IsIn self.old l }
+        ensures ok { IfOk result (λ r. Follows (tell (l ∷ [])) self.old r self.new) }
+        ensures grows { OnOk result (Grows 1 self.old self.new) }
+        ensures err { OnErr result (self.new ≡ self.old) }
+        ensures begins { Begins self.old self.new }
+    {
+        self.clause(&[l])?;
+        Ok(())
+    }
+
+    /// Forces one of the literals to be true.
+    pub fn clause(&mut self, literals: &[Lit]) -> Result<(), AllocError>
+        requires room { HasRoom 1 self.old }
+        requires literals { All (IsIn self.old) literals.now }
+        ensures ok { IfOk result (λ r. Follows (tell literals.now) self.old r self.new) }
+        ensures grows { OnOk result (Grows 1 self.old self.new) }
+        ensures err { OnErr result (self.new ≡ self.old) }
+        ensures begins { Begins self.old self.new }
+    {
+        self.clauses.add(literals)?;
+        Ok(())
+    }
+
+    /// The clauses, over all variables. Whatever events made the circuit, the formula holds exactly
+    /// where variable 0 is true, each gate has its value and each forced clause holds; and the
+    /// inputs determine it.
+    pub fn finish(self) -> Formula
+        ensures clauses { result.clauses ≡ self.clauses }
+        ensures vars { result.vars ≡ self.vars }
+        ensures meaning { (v : ℕ → Bool) (events : List Event) → self ≡ built start events →
+            Satisfies v result.clauses ↔ (IsTrue (v 0) × Meets v 1 events) }
+        ensures determined { (events : List Event) → self ≡ built start events → AreScoped 1 events →
+            Determines result.clauses result.vars (inputs_of 1 events) }
+    {
+        Formula {
+            clauses: self.clauses.into_clauses(),
+            vars: self.vars,
+        }
+    }
+
+    /// The literal of the next variable.
+    fn next(&self) -> Lit
+        requires { HasRoom 1 self.now }
+        ensures { result ≡ literal_of self.now.vars false }
+    {
+        Lit::new(self.vars, false)
+    }
+}
+
+/// The three literals of a gate's clause. The gate's own literal has the greatest code, and the
+/// other two are put in order, so that the clause needs no sorting.
+fn in_order(x: Lit, y: Lit, gate: Lit) -> [Lit; 3]
+    ensures { added result ≡ added (x ∷ y ∷ gate ∷ []) }
+{
+    if x.code() <= y.code() {
+        [x, y, gate]
+    } else {
+        [y, x, gate]
+    }
+}

@@ -1,0 +1,124 @@
+ghost use Rattle.std.specs.Prelude.{◌≡◌};
+
+use crate::Circuit;
+use am_lit::{Formula, Lit};
+use std::test::Fail;
+
+/// Whether these are the codes of a clause's literals.
+fn has_codes(clause: &[Lit], codes: &[u32]) -> bool {
+    if clause.len() != codes.len() {
+        return false;
+    }
+    for i in 0..clause.len() {
+        if clause[i].code() != codes[i] {
+            return false;
+        }
+    }
+    true
+}
+
+/// Whether these are the codes of the formula's clauses, in order.
+fn has_clauses(formula: &Formula, clauses: &[&[u32]]) -> bool {
+    let len = formula.clauses.len();
+    if len as usize != clauses.len() {
+        return false;
+    }
+    for i in 0..len {
+        if !has_codes(formula.clauses.clause(i), clauses[i as usize]) {
+            return false;
+        }
+    }
+    true
+}
+
+#[test]
+fn an_and_gate_has_three_clauses(rt: HostRuntime) -> Result<(), Fail> {
+    let mut circuit = Circuit::new(rt.alloc())?;
+    assert_eq!(rt; circuit.truth().code(), 0);
+    let a = circuit.input()?;
+    let b = circuit.input()?;
+    let both = circuit.and(a, b)?;
+    assert_eq!(rt; (a.code(), b.code(), both.code()), (2, 4, 6));
+    let formula = circuit.finish();
+    assert_eq!(rt; formula.vars, 4);
+    assert!(rt; has_clauses(&formula, &[&[0], &[2, 7], &[4, 7], &[3, 5, 6]]));
+    Ok(())
+}
+
+#[test]
+fn a_xor_and_a_mux_have_four_clauses_each(rt: HostRuntime) -> Result<(), Fail> {
+    let mut circuit = Circuit::new(rt.alloc())?;
+    let a = circuit.input()?;
+    let b = circuit.input()?;
+    let differ = circuit.xor(a, b)?;
+    let chosen = circuit.mux(a, b, differ)?;
+    assert_eq!(rt; (differ.code(), chosen.code()), (6, 8));
+    let formula = circuit.finish();
+    assert_eq!(rt; formula.vars, 5);
+    assert!(rt;
+        has_clauses(
+            &formula,
+            &[
+                &[0],
+                &[2, 4, 7],
+                &[3, 5, 7],
+                &[3, 4, 6],
+                &[2, 5, 6],
+                &[3, 5, 8],
+                &[3, 4, 9],
+                &[2, 7, 8],
+                &[2, 6, 9],
+            ]
+        )
+    );
+    Ok(())
+}
+
+#[test]
+fn forced_clauses_stand_as_they_were_made(rt: HostRuntime) -> Result<(), Fail> {
+    let mut circuit = Circuit::new(rt.alloc())?;
+    let a = circuit.input()?;
+    let b = circuit.input()?;
+    let c = circuit.input()?;
+    circuit.clause(&[a, b])?;
+    circuit.clause(&[a.opposite(), b.opposite()])?;
+    circuit.force(c)?;
+    let formula = circuit.finish();
+    assert_eq!(rt; formula.vars, 4);
+    assert!(rt; has_clauses(&formula, &[&[0], &[2, 4], &[3, 5], &[6]]));
+    Ok(())
+}
+
+#[test]
+fn clauses_are_sorted_without_repeats_and_tautologies(rt: HostRuntime) -> Result<(), Fail> {
+    let mut circuit = Circuit::new(rt.alloc())?;
+    let a = circuit.input()?;
+    let same = circuit.and(a, a)?;
+    let nothing = circuit.xor(a, a.opposite())?;
+    let fixed = circuit.and(circuit.truth(), a)?;
+    assert_eq!(rt; (same.code(), nothing.code(), fixed.code()), (4, 6, 8));
+    circuit.clause(&[same, a.opposite(), same])?;
+    circuit.clause(&[a, a.opposite()])?;
+    let none = [a];
+    circuit.clause(&none[..0])?;
+    let formula = circuit.finish();
+    assert!(rt;
+        has_clauses(
+            &formula,
+            &[
+                &[0],
+                &[2, 5],
+                &[2, 5],
+                &[3, 4],
+                &[3, 6],
+                &[2, 6],
+                &[0, 9],
+                &[2, 9],
+                &[1, 3, 8],
+                &[3, 4],
+                &[],
+            ]
+        )
+    );
+    Ok(())
+}
