@@ -1,0 +1,16 @@
+pub mod Words
+pub mod Giving
+pub mod Arguments
+pub mod Making
+pub mod Bits
+pub mod Steps
+pub mod Equality
+pub mod Shifts
+pub mod Logic
+pub mod Flags
+pub mod Table
+pub mod Blasted
+pub mod Sums
+pub mod Comparisons
+pub mod Products
+pub mod Division

@@ -1,0 +1,92 @@
+-- Words, what they read, and where their literals stand.
+use Rattle.std.proofs.Common.{◌≡◌, ℕ, zero, suc, ◌+◌, ◌-◌, ◌*◌, ◌^◌, ◌<◌, ◌≤◌, Bool, true, false, not, List, [], ◌∷◌, ◌++◌, take, drop, length, get_or, drop-cons, add-one, refl, ◌∙◌, ap, arith}
+use Rattle.std.specs.Prelude.{IsTrue, All}
+use Rattle.std.proofs.Math.Nat.{pow-succ'}
+use Rattle.std.proofs.lemmas.List.{length-map, length-replicate}
+use Rattle.std.proofs.lemmas.List.Elements.{All-cons, All-head, All-tail, All-map, All-append, All-replicate, All-take, All-drop}
+use Rattle.am_lit.specs.Literal.{opposite_of}
+use Rattle.am_lit.specs.Truth.{literal_value}
+use Rattle.am_lit.proofs.Truths.{literal_value-opposite_of}
+use Rattle.am_gate.specs.Circuit.{truth, falsity}
+use Rattle.am_gate.proofs.Meaning.{literal_value-even, literal_value-odd}
+use Rattle.am_bv.specs.Words.{complement}
+use Rattle.am_gate.proofs.Opposites.{variable_of-opposite_of}
+use Rattle.am_blast.specs.Words.{bit, reads, IsLiteral, IsWord, opposites, zeros, flag, sign_turned}
+
+pub bit-not : (b : Bool) → bit (not b) + bit b ≡ 1
+bit-not true = refl
+bit-not false = refl
+
+pub bit-le : (b : Bool) → bit b ≤ 1
+bit-le true = omega arith
+bit-le false = omega arith
+
+pub reads-lt : (v : ℕ → Bool) (xs : List ℕ) → reads v xs < 2 ^ length xs
+reads-lt v [] = omega arith
+reads-lt v (x ∷ xs) = rw pow-succ' (omega (arith, bit-le (literal_value v x), reads-lt v xs))
+
+pub reads-opposites : (v : ℕ → Bool) (xs : List ℕ) → reads v (opposites xs) + reads v xs + 1 ≡ 2 ^ length xs
+reads-opposites v [] = refl
+reads-opposites v (x ∷ xs) =
+    rw (pow-succ', literal_value-opposite_of v x) (omega (arith, bit-not (literal_value v x), reads-opposites v xs))
+
+pub complement-reads : (v : ℕ → Bool) (xs : List ℕ) → reads v (opposites xs) ≡ complement (length xs) (reads v xs)
+complement-reads v xs = omega (arith, reads-opposites v xs)
+
+pub reads-append : (v : ℕ → Bool) (xs ys : List ℕ) → reads v (xs ++ ys) ≡ reads v xs + 2 ^ length xs * reads v ys
+reads-append v [] ys = omega arith
+reads-append v (x ∷ xs) ys = rw (pow-succ', reads-append v xs ys) (omega arith)
+
+pub value-truth : (v : ℕ → Bool) → IsTrue (v 0) → literal_value v truth ≡ true
+value-truth v t = literal_value-even v 0 ∙ t
+
+pub value-falsity : (v : ℕ → Bool) → IsTrue (v 0) → literal_value v falsity ≡ false
+value-falsity v t = literal_value-odd v 0 ∙ ap not t
+
+pub reads-zeros : (v : ℕ → Bool) (n : ℕ) → IsTrue (v 0) → reads v (zeros n) ≡ 0
+reads-zeros v zero t = refl
+reads-zeros v (suc n) t = rw (reads-zeros v n t, value-falsity v t) refl
+
+-- where literals stand
+
+pub IsLiteral-opposite : (n l : ℕ) → IsLiteral n l → IsLiteral n (opposite_of l)
+IsLiteral-opposite n l h = rw (variable_of-opposite_of l) h
+
+pub All-opposites : (n : ℕ) (xs : List ℕ) → All (IsLiteral n) xs → All (IsLiteral n) (opposites xs)
+All-opposites n xs h = All-map (IsLiteral n) opposite_of xs (λ k d l. IsLiteral-opposite n _ (h k d l))
+
+pub All-zeros : (n k : ℕ) → 0 < n → All (IsLiteral n) (zeros k)
+All-zeros n k h = All-replicate (IsLiteral n) k falsity h
+
+pub All-later : (n m : ℕ) (xs : List ℕ) → n ≤ m → All (IsLiteral n) xs → All (IsLiteral m) xs
+All-later n m xs l h = λ i d lt. omega (arith, l, h i d lt)
+
+pub first_inside : (n x : ℕ) (xs : List ℕ) → All (IsLiteral n) (x ∷ xs) → IsLiteral n x
+first_inside n x xs h = All-head (IsLiteral n) x xs h
+
+pub others_inside : (n m x : ℕ) (xs : List ℕ) → n ≤ m → All (IsLiteral n) (x ∷ xs) → All (IsLiteral m) xs
+others_inside n m x xs l h = All-later n m xs l (All-tail (IsLiteral n) x xs h)
+
+pub IsWord-later : (w n m : ℕ) (xs : List ℕ) → n ≤ m → IsWord w n xs → IsWord w m xs
+IsWord-later w n m xs l h = record { bits = h.bits; inside = All-later n m xs l h.inside }
+
+pub IsWord-opposites : (w n : ℕ) (xs : List ℕ) → IsWord w n xs → IsWord w n (opposites xs)
+IsWord-opposites w n xs h = record { bits = length-map xs opposite_of ∙ h.bits; inside = All-opposites n xs h.inside }
+
+pub All-sign_turned : (n : ℕ) (xs : List ℕ) → All (IsLiteral n) xs → All (IsLiteral n) (sign_turned xs)
+All-sign_turned n xs h =
+    let k = length xs - 1 in
+    All-append (IsLiteral n) (take k xs) (opposites (drop k xs)) (All-take (IsLiteral n) k xs h) (All-opposites n (drop k xs) (All-drop (IsLiteral n) k xs h))
+
+pub IsWord-flag : (w n l : ℕ) → 1 ≤ w → 0 < n → IsLiteral n l → IsWord w n (flag w l)
+IsWord-flag w n l one pos h = record {
+  bits = rw length-replicate (omega (arith, one));
+  inside = All-cons (IsLiteral n) l (zeros (w - 1)) h (All-zeros n (w - 1) pos);
+}
+
+pub IsWord-zeros : (w n : ℕ) → 0 < n → IsWord w n (zeros w)
+IsWord-zeros w n h = record { bits = length-replicate w falsity; inside = All-zeros n w h }
+
+-- what is left of a list, from an element on
+pub drop-from : {A : Type 0} (i : ℕ) (x : A) (xs : List A) → i < length xs → x ≡ get_or xs i x → drop i xs ≡ x ∷ drop (i + 1) xs
+drop-from i x xs l e = drop-cons xs i x l ∙ rw (← e, add-one) refl

@@ -1,0 +1,45 @@
+-- Tests of words: each gives one literal.
+use Rattle.std.specs.Prelude.{ℕ, List, [], ◌∷◌}
+use Rattle.am_lit.specs.Literal.{opposite_of}
+use Rattle.am_gate.specs.Circuit.{Event.And, Event.Xor, truth, falsity}
+use Rattle.am_gate.specs.Build.{Step, ◌>>=◌, answer, ask}
+use Rattle.am_blast.specs.Words.{opposites, flag}
+use Rattle.am_blast.specs.Sums.{carry_of}
+
+-- whether a is below b
+unfoldable pub below : List ℕ → List ℕ → Step ℕ
+below a b = do
+  carry ← carry_of a (opposites b) truth
+  answer (opposite_of carry)
+
+-- whether a is at most b
+abbrev pub most : List ℕ → List ℕ → Step ℕ
+most a b = carry_of b (opposites a) truth
+
+-- whether e holds and the words are equal
+unfoldable pub equal_from : ℕ → List ℕ → List ℕ → Step ℕ
+equal_from e [] ys = answer e
+equal_from e (x ∷ xs) [] = answer e
+equal_from e (x ∷ xs) (y ∷ ys) = do
+  differ ← ask (Xor x y)
+  next ← ask (And e (opposite_of differ))
+  equal_from next xs ys
+
+abbrev pub equal : List ℕ → List ℕ → Step ℕ
+equal a b = equal_from truth a b
+
+-- whether n holds or some bit of the word is set
+unfoldable pub nonzero_from : ℕ → List ℕ → Step ℕ
+nonzero_from n [] = answer n
+nonzero_from n (x ∷ xs) = do
+  neither ← ask (And (opposite_of n) (opposite_of x))
+  nonzero_from (opposite_of neither) xs
+
+abbrev pub nonzero : List ℕ → Step ℕ
+nonzero a = nonzero_from falsity a
+
+-- a test as a word of w bits
+unfoldable pub flagged : ℕ → Step ℕ → Step (List ℕ)
+flagged w test = do
+  l ← test
+  answer (flag w l)

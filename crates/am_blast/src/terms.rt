@@ -1,0 +1,105 @@
+ghost use Rattle.std.specs.Prelude.{ℕ, Bool, ◌≡◌, ◌+◌, ◌%◌, ◌^◌, ◌<◌, ◌==◌, if◌then◌else◌, IfOk, OnOk, All, IsTrue, length, map};
+ghost use Rattle.am_gate.specs.Circuit.{truth, falsity, IsIn, HasRoom, Grows, Begins};
+ghost use Rattle.am_gate.specs.Value.{Meets};
+ghost use Rattle.am_gate.specs.Build.{place_of, Follows, AreGates};
+ghost use Rattle.am_bv.specs.Terms.{val, fits, nodes, weight};
+ghost use Rattle.am_blast.specs.Words.{IsWord, reads, constant};
+ghost use Rattle.am_blast.specs.Circuits.{blasted};
+ghost use Rattle.am_blast.specs.Promises.{Gives};
+
+use crate::operator::apply;
+use crate::word::{WordLits, Words, copied};
+use am_bv::{Term, Width};
+use am_gate::Circuit;
+use am_lit::Lit;
+use std::alloc::{AllocError, Global};
+
+/// Makes the circuit of a term over the words of its fields, and answers the term's word.
+///
+/// It makes exactly as many gates as the term weighs, and no input. Wherever variable 0 is true and
+/// each gate's variable has its gate's value, the word reads as the value of the term where each field
+/// has the value that its word reads. Each choice of the earlier variables extends to such truth
+/// values. After want of memory the circuit begins with its earlier variables and clauses.
+pub fn blast(
+    alloc: Global,
+    circuit: &mut Circuit,
+    w: Width,
+    term: &Term,
+    fields: &[WordLits],
+) -> Result<WordLits, AllocError>
+    requires fits { IsTrue (fits w (length fields.now) term.now) }
+    requires nodes { nodes term.now < 2 ^ 32 }
+    requires fields { All (IsWord w circuit.old.vars) fields.now }
+    requires room { HasRoom (weight w term.now) circuit.old }
+    ensures circuit { IfOk result (λ r. Follows (blasted w fields.now term.now) circuit.old r circuit.new) }
+    ensures word { IfOk result (IsWord w circuit.new.vars) }
+    ensures grows { OnOk result (Grows (weight w term.now) circuit.old circuit.new) }
+    ensures gates { AreGates (blasted w fields.now term.now (place_of circuit.old)).events }
+    ensures count { OnOk result (circuit.new.vars ≡ circuit.old.vars + weight w term.now) }
+    ensures meaning { IfOk result (λ r. (v : ℕ → Bool) → IsTrue (v 0) →
+        Meets v circuit.old.vars (blasted w fields.now term.now (place_of circuit.old)).events →
+        reads v r ≡ val w term.now (map (reads v) fields.now)) }
+    ensures extends { (v : ℕ → Bool) →
+        (u : ℕ → Bool) × ((x : ℕ) → x < circuit.old.vars → u x ≡ v x) ×
+        Meets u circuit.old.vars (blasted w fields.now term.now (place_of circuit.old)).events }
+    ensures begins { Begins circuit.old circuit.new }
+{
+    let on = circuit.truth();
+    let word = word_of(alloc, circuit, w, term, fields, on)?;
+    Ok(word)
+}
+
+/// The word of a term: its arguments from left to right, then its operator. The literal `on` is true.
+#[tactic(auto, using(crate::proofs::Steps::begins))]
+fn word_of(
+    alloc: Global,
+    circuit: &mut Circuit,
+    w: Width,
+    term: &Term,
+    fields: &[WordLits],
+    on: Lit,
+) -> Result<WordLits, AllocError>
+    requires fits { IsTrue (fits w (length fields.now) term.now) }
+    requires nodes { nodes term.now < 2 ^ 32 }
+    requires fields { All (IsWord w circuit.old.vars) fields.now }
+    requires room { HasRoom (weight w term.now) circuit.old }
+    requires on { on ≡ truth }
+    requires inside { IsIn circuit.old on }
+    ensures ok { IfOk result (λ r. Gives (blasted w fields.now term.now) (weight w term.now) (IsWord w) circuit.old r circuit.new) }
+    ensures begins { Begins circuit.old circuit.new }
+{
+    match term {
+        Term::Const(c) => constant(alloc, w, *c, on),
+        Term::Field(i) => copied(alloc, fields[*i as usize].as_slice()),
+        Term::Node(op, args) => {
+            let mut words = Words::new(alloc);
+            for t in args.as_slice() {
+                let word = word_of(alloc, circuit, w, t, fields, on)?;
+                words.push(word)?;
+            }
+            apply(alloc, circuit, w, *op, words.as_slice())
+        }
+    }
+}
+
+/// The word of a constant, from the literal that is true.
+fn constant(alloc: Global, w: Width, c: u8, on: Lit) -> Result<WordLits, AllocError>
+    requires { on ≡ truth }
+    ensures { IfOk result (λ r. r ≡ constant w c) }
+{
+    let mut word = WordLits::new(alloc);
+    let mut rest = c;
+    for _ in 0..w.bits() {
+        word.push(low_bit(rest, on))?;
+        rest /= 2;
+    }
+    Ok(word)
+}
+
+/// The literal of bit 0 of a constant.
+fn low_bit(c: u8, on: Lit) -> Lit
+    requires { on ≡ truth }
+    ensures { result ≡ (if c % 2 == 0 then falsity else truth) }
+{
+    if c % 2 == 0 { on.opposite() } else { on }
+}
