@@ -1,8 +1,25 @@
-ghost use Rattle.std.specs.Prelude.{◌≡◌, None};
+//! The standard streams. What they hold is not told; that an error is counted is proved.
+
+ghost use Rattle.std.specs.Prelude.{◌≡◌, ◌-◌, ◌<◌, ◌^◌, None};
+ghost use Rattle.am_io.specs.inside.Counted.{Counts};
 
 use crate::streams::{Failed, Sink, Source};
-use std::io::{Read, Stdin, Stdout, Write};
+use std::io::{self, Read, Stdin, Stdout, Write};
 use std::marker::Model;
+
+/// Passes on what a call on a standard stream answered, and counts an error as a fault.
+fn counted<T>(answer: io::Result<T>, faults: &mut u64) -> Result<T, Failed>
+    requires { faults.old < 2 ^ 64 - 1 }
+    ensures { Counts answer result faults.old faults.new }
+{
+    match answer {
+        Ok(value) => Ok(value),
+        Err(_) => {
+            *faults += 1;
+            Err(Failed::Failed)
+        }
+    }
+}
 
 /// Standard input. A contract sees its count of faults, and its bytes are not told.
 #[derive(Drop)]
@@ -35,13 +52,7 @@ impl Source for StdSource {
     ghost calls = { λ _. 0 };
 
     fn take(&mut self, into: &mut [u8]) -> Result<usize, Failed> {
-        match self.input.read(into) {
-            Ok(count) => Ok(count),
-            Err(_) => {
-                self.faults += 1;
-                Err(Failed::Failed)
-            }
-        }
+        counted(self.input.read(into), &mut self.faults)
     }
 }
 
@@ -77,22 +88,16 @@ impl Sink for StdSink {
 
     /// A write of no byte is a fault, as an error is.
     fn put(&mut self, piece: &[u8]) -> Result<usize, Failed> {
-        match self.output.write(piece) {
-            Ok(0) | Err(_) => {
+        match counted(self.output.write(piece), &mut self.faults)? {
+            0 => {
                 self.faults += 1;
                 Err(Failed::Failed)
             }
-            Ok(count) => Ok(count),
+            count => Ok(count),
         }
     }
 
     fn finish(&mut self) -> Result<(), Failed> {
-        match self.output.flush() {
-            Ok(()) => Ok(()),
-            Err(_) => {
-                self.faults += 1;
-                Err(Failed::Failed)
-            }
-        }
+        counted(self.output.flush(), &mut self.faults)
     }
 }
