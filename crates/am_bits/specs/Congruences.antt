@@ -7,7 +7,8 @@ use Rattle.am_bv.specs.Words.{complement}
 use Rattle.am_bv.specs.declared.op.Op.TheVariants.{Add, And, Eq, Not, Xor}
 use Rattle.am_bv.specs.declared.term.Term.{Term}
 use Rattle.am_bv.specs.declared.term.Term.TheVariants.{Const, Field}
-use Rattle.am_bits.specs.Nodes.{unary, binary}
+use Rattle.am_bv.specs.Terms.{unary, binary}
+use Rattle.am_domain.specs.Meaning.{Meaning}
 
 abbrev pub mask : List ℕ → ℕ
 mask a = slice_index a 0
@@ -27,6 +28,10 @@ pub record IsCongruence (w : ℕ) (a : List ℕ) : Type 0 where
 -- the word and the residue agree on each bit of the mask
 abbrev pub IsCongruent : List ℕ → ℕ → Type 0
 IsCongruent a c = (i : ℕ) → bit_at (mask a) i ≡ 1 → bit_at c i ≡ bit_at (residue a) i
+
+-- the domain of congruences
+abbrev pub congruences : Meaning
+congruences = record { fields = 2; Valid = IsCongruence; Member = λ w. IsCongruent }
 
 -- the greatest number 2 ^ j - 1, with j at most k, whose bits are all in x
 unfoldable pub low_up_to : ℕ → ℕ → ℕ

@@ -7,7 +7,8 @@ use Rattle.am_bv.specs.Words.{complement}
 use Rattle.am_bv.specs.declared.op.Op.TheVariants.{And, Eq}
 use Rattle.am_bv.specs.declared.term.Term.{Term}
 use Rattle.am_bv.specs.declared.term.Term.TheVariants.{Const, Field}
-use Rattle.am_bits.specs.Nodes.{binary}
+use Rattle.am_bv.specs.Terms.{binary}
+use Rattle.am_domain.specs.Meaning.{Meaning}
 
 abbrev pub zeros : List ℕ → ℕ
 zeros a = slice_index a 0
@@ -23,6 +24,10 @@ IsKnown a = (i : ℕ) → ¬ ((bit_at (zeros a) i ≡ 1) × (bit_at (ones a) i �
 pub record HasKnown (a : List ℕ) (c : ℕ) : Type 0 where
   pub clear : (i : ℕ) → bit_at (zeros a) i ≡ 1 → bit_at c i ≡ 0
   pub set : (i : ℕ) → bit_at (ones a) i ≡ 1 → bit_at c i ≡ 1
+
+-- the domain of known bits
+abbrev pub known_bits : Meaning
+known_bits = record { fields = 2; Valid = λ w. IsKnown; Member = λ w. HasKnown }
 
 -- no bit is known
 abbrev pub known_top : List ℕ

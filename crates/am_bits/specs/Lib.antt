@@ -1,4 +1,3 @@
-pub mod Nodes
 pub mod KnownBits
 pub mod Parities
 pub mod Congruences

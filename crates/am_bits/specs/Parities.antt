@@ -6,7 +6,8 @@ use Rattle.std.specs.Int.{bit_at}
 use Rattle.am_bv.specs.declared.op.Op.TheVariants.{And, Lshr, Ule}
 use Rattle.am_bv.specs.declared.term.Term.{Term}
 use Rattle.am_bv.specs.declared.term.Term.TheVariants.{Const, Field}
-use Rattle.am_bits.specs.Nodes.{binary}
+use Rattle.am_bv.specs.Terms.{binary}
+use Rattle.am_domain.specs.Meaning.{Meaning}
 
 -- p is 1, 2 or 3
 abbrev pub IsParity : List ℕ → Type 0
@@ -15,6 +16,10 @@ IsParity a = (1 ≤ slice_index a 0) × (slice_index a 0 ≤ 3)
 -- the bit of p that stands for the word is 1
 abbrev pub HasParity : List ℕ → ℕ → Type 0
 HasParity a c = bit_at (slice_index a 0) (c % 2) ≡ 1
+
+-- the domain of parities
+abbrev pub parities : Meaning
+parities = record { fields = 1; Valid = λ w. IsParity; Member = λ w. HasParity }
 
 -- even and odd words
 abbrev pub parity_top : List ℕ

@@ -1,6 +1,5 @@
 pub mod Bits
 pub mod Masks
-pub mod Tuples
 pub mod Terms
 pub mod KnownLaws
 pub mod ParityLaws

@@ -1,9 +1,10 @@
+//! Congruences modulo powers of two.
+
 ghost use Rattle.std.specs.Prelude.{◌≡◌};
-ghost use Rattle.am_bits.specs.Congruences.{IsCongruence, IsCongruent, low, modulo, congruence_top, congruence_of_word, residue, congruence_join, congruence_tidy, congruence_rank, congruence_valid_term, congruence_member_term};
+ghost use Rattle.std.proofs.Common.{lit≤};
+ghost use Rattle.am_bits.specs.Congruences.{congruences, low, modulo, congruence_top, congruence_of_word, residue, congruence_join, congruence_tidy, congruence_rank, congruence_valid_term, congruence_member_term};
 ghost use Rattle.am_bits.specs.lemmas.CongruenceLaws as laws;
 
-use crate::node::{binary, unary};
-use crate::tuple::pair;
 use am_bv::{Op, Term, Width};
 use am_domain::{Domain, Fields};
 use std::alloc::{AllocError, Global};
@@ -14,11 +15,7 @@ use std::alloc::{AllocError, Global};
 pub struct Congruence;
 
 impl Domain for Congruence {
-    ghost fields = { λ _. 2 };
-
-    ghost valid = { λ _. IsCongruence };
-
-    ghost member = { λ _ w. IsCongruent };
+    ghost meaning = { λ _. congruences };
 
     ghost top = { λ _ w. congruence_top };
 
@@ -50,11 +47,11 @@ impl Domain for Congruence {
     }
 
     fn top(&self, _w: Width) -> Fields {
-        pair(0, 0)
+        Fields::pair(0, 0)
     }
 
     fn of_word(&self, w: Width, c: u8) -> Fields {
-        pair(w.mask(), c)
+        Fields::pair(w.mask(), c)
     }
 
     fn some_member(&self, _w: Width, a: &Fields) -> u8 {
@@ -75,20 +72,22 @@ impl Domain for Congruence {
     }
 
     fn valid_term(&self, alloc: Global, _w: Width) -> Result<Term, AllocError> {
-        let next = binary(alloc, Op::Add, Term::Field(0), Term::Const(1))?;
-        let common = binary(alloc, Op::And, Term::Field(0), next)?;
-        let masked = binary(alloc, Op::Eq, common, Term::Const(0))?;
-        let outside = unary(alloc, Op::Not, Term::Field(0))?;
-        let above = binary(alloc, Op::And, Term::Field(1), outside)?;
-        let within = binary(alloc, Op::Eq, above, Term::Const(0))?;
-        binary(alloc, Op::And, masked, within)
+        let next = Term::binary(alloc, Op::Add, Term::Field(0), Term::Const(1))?;
+        let common = Term::binary(alloc, Op::And, Term::Field(0), next)?;
+        let masked = Term::binary(alloc, Op::Eq, common, Term::Const(0))?;
+        let outside = Term::unary(alloc, Op::Not, Term::Field(0))?;
+        let above = Term::binary(alloc, Op::And, Term::Field(1), outside)?;
+        let within = Term::binary(alloc, Op::Eq, above, Term::Const(0))?;
+        Term::binary(alloc, Op::And, masked, within)
     }
 
     fn member_term(&self, alloc: Global, _w: Width) -> Result<Term, AllocError> {
-        let differing = binary(alloc, Op::Xor, Term::Field(2), Term::Field(1))?;
-        let masked = binary(alloc, Op::And, differing, Term::Field(0))?;
-        binary(alloc, Op::Eq, masked, Term::Const(0))
+        let differing = Term::binary(alloc, Op::Xor, Term::Field(2), Term::Field(1))?;
+        let masked = Term::binary(alloc, Op::And, differing, Term::Field(0))?;
+        Term::binary(alloc, Op::Eq, masked, Term::Const(0))
     }
+
+    ghost has_fields = { λ _. lit≤ tt };
 
     ghost has_members = { λ _. laws.has_members };
 
@@ -111,7 +110,7 @@ impl Domain for Congruence {
 fn modulo(mask: u8, number: u8) -> Fields
     ensures { result ≡ modulo mask number }
 {
-    pair(mask, number & mask)
+    Fields::pair(mask, number & mask)
 }
 
 /// The greatest number 2^j - 1 whose bits are all in `x`.

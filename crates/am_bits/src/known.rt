@@ -1,8 +1,9 @@
-ghost use Rattle.am_bits.specs.KnownBits.{IsKnown, HasKnown, known_top, known_of_word, ones, known_join, known_tidy, known_rank, known_valid_term, known_member_term};
+//! Known bits.
+
+ghost use Rattle.std.proofs.Common.{lit≤};
+ghost use Rattle.am_bits.specs.KnownBits.{known_bits, known_top, known_of_word, ones, known_join, known_tidy, known_rank, known_valid_term, known_member_term};
 ghost use Rattle.am_bits.specs.lemmas.KnownLaws as laws;
 
-use crate::node::binary;
-use crate::tuple::pair;
 use am_bv::{Op, Term, Width};
 use am_domain::{Domain, Fields};
 use std::alloc::{AllocError, Global};
@@ -12,11 +13,7 @@ use std::alloc::{AllocError, Global};
 pub struct Known;
 
 impl Domain for Known {
-    ghost fields = { λ _. 2 };
-
-    ghost valid = { λ _ w. IsKnown };
-
-    ghost member = { λ _ w. HasKnown };
+    ghost meaning = { λ _. known_bits };
 
     ghost top = { λ _ w. known_top };
 
@@ -48,11 +45,11 @@ impl Domain for Known {
     }
 
     fn top(&self, _w: Width) -> Fields {
-        pair(0, 0)
+        Fields::pair(0, 0)
     }
 
     fn of_word(&self, w: Width, c: u8) -> Fields {
-        pair(w.mask() - c, c)
+        Fields::pair(w.mask() - c, c)
     }
 
     fn some_member(&self, _w: Width, a: &Fields) -> u8 {
@@ -60,14 +57,14 @@ impl Domain for Known {
     }
 
     fn join(&self, _w: Width, a: &Fields, b: &Fields) -> Fields {
-        pair(a.get(0) & b.get(0), a.get(1) & b.get(1))
+        Fields::pair(a.get(0) & b.get(0), a.get(1) & b.get(1))
     }
 
     fn tidy(&self, _w: Width, raw: &Fields) -> Option<Fields> {
         let zeros = raw.get(0);
         let ones = raw.get(1);
         if zeros & ones == 0 {
-            Some(pair(zeros, ones))
+            Some(Fields::pair(zeros, ones))
         } else {
             None
         }
@@ -78,17 +75,19 @@ impl Domain for Known {
     }
 
     fn valid_term(&self, alloc: Global, _w: Width) -> Result<Term, AllocError> {
-        let common = binary(alloc, Op::And, Term::Field(0), Term::Field(1))?;
-        binary(alloc, Op::Eq, common, Term::Const(0))
+        let common = Term::binary(alloc, Op::And, Term::Field(0), Term::Field(1))?;
+        Term::binary(alloc, Op::Eq, common, Term::Const(0))
     }
 
     fn member_term(&self, alloc: Global, _w: Width) -> Result<Term, AllocError> {
-        let zeros = binary(alloc, Op::And, Term::Field(2), Term::Field(0))?;
-        let clear = binary(alloc, Op::Eq, zeros, Term::Const(0))?;
-        let ones = binary(alloc, Op::And, Term::Field(2), Term::Field(1))?;
-        let set = binary(alloc, Op::Eq, ones, Term::Field(1))?;
-        binary(alloc, Op::And, clear, set)
+        let zeros = Term::binary(alloc, Op::And, Term::Field(2), Term::Field(0))?;
+        let clear = Term::binary(alloc, Op::Eq, zeros, Term::Const(0))?;
+        let ones = Term::binary(alloc, Op::And, Term::Field(2), Term::Field(1))?;
+        let set = Term::binary(alloc, Op::Eq, ones, Term::Field(1))?;
+        Term::binary(alloc, Op::And, clear, set)
     }
+
+    ghost has_fields = { λ _. lit≤ tt };
 
     ghost has_members = { λ _. laws.has_members };
 

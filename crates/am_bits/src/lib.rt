@@ -18,14 +18,18 @@
 //! The definitions stand in `specs/KnownBits.antt`, `specs/Parities.antt` and
 //! `specs/Congruences.antt`. The proofs of the laws are in `specs/lemmas`, for all words and tuples of
 //! every width from 2 to 8. [`theorems`] says what a congruence is in whole numbers.
+//!
+//! # What is proved
+//!
+//! Each method equals its row of the definitions, and each law is proved for all words and tuples
+//! of every width from 2 to 8. It is also proved that a word is a member of a congruence exactly
+//! where it leaves its residue modulo m + 1.
 #![tactic(auto)]
 
 mod congruence;
 mod known;
-mod node;
 mod parity;
 pub mod theorems;
-mod tuple;
 
 pub use congruence::Congruence;
 pub use known::Known;

@@ -1,8 +1,9 @@
-ghost use Rattle.am_bits.specs.Parities.{IsParity, HasParity, parity_top, parity_of_word, parity_some_member, parity_join, parity_tidy, parity_rank, parity_valid_term, parity_member_term};
+//! Parity.
+
+ghost use Rattle.std.proofs.Common.{lit≤};
+ghost use Rattle.am_bits.specs.Parities.{parities, parity_top, parity_of_word, parity_some_member, parity_join, parity_tidy, parity_rank, parity_valid_term, parity_member_term};
 ghost use Rattle.am_bits.specs.lemmas.ParityLaws as laws;
 
-use crate::node::binary;
-use crate::tuple::single;
 use am_bv::{Op, Term, Width};
 use am_domain::{Domain, Fields};
 use std::alloc::{AllocError, Global};
@@ -13,11 +14,7 @@ use std::alloc::{AllocError, Global};
 pub struct Parity;
 
 impl Domain for Parity {
-    ghost fields = { λ _. 1 };
-
-    ghost valid = { λ _ w. IsParity };
-
-    ghost member = { λ _ w. HasParity };
+    ghost meaning = { λ _. parities };
 
     ghost top = { λ _ w. parity_top };
 
@@ -48,11 +45,11 @@ impl Domain for Parity {
     }
 
     fn top(&self, _w: Width) -> Fields {
-        single(3)
+        Fields::single(3)
     }
 
     fn of_word(&self, _w: Width, c: u8) -> Fields {
-        single(if c % 2 == 0 { 1 } else { 2 })
+        Fields::single(if c % 2 == 0 { 1 } else { 2 })
     }
 
     fn some_member(&self, _w: Width, a: &Fields) -> u8 {
@@ -60,12 +57,16 @@ impl Domain for Parity {
     }
 
     fn join(&self, _w: Width, a: &Fields, b: &Fields) -> Fields {
-        single(a.get(0) | b.get(0))
+        Fields::single(a.get(0) | b.get(0))
     }
 
     fn tidy(&self, _w: Width, raw: &Fields) -> Option<Fields> {
         let p = raw.get(0) & 3;
-        if p == 0 { None } else { Some(single(p)) }
+        if p == 0 {
+            None
+        } else {
+            Some(Fields::single(p))
+        }
     }
 
     fn rank(&self, _w: Width, a: &Fields) -> u32 {
@@ -73,16 +74,18 @@ impl Domain for Parity {
     }
 
     fn valid_term(&self, alloc: Global, _w: Width) -> Result<Term, AllocError> {
-        let least = binary(alloc, Op::Ule, Term::Const(1), Term::Field(0))?;
-        let most = binary(alloc, Op::Ule, Term::Field(0), Term::Const(3))?;
-        binary(alloc, Op::And, least, most)
+        let least = Term::binary(alloc, Op::Ule, Term::Const(1), Term::Field(0))?;
+        let most = Term::binary(alloc, Op::Ule, Term::Field(0), Term::Const(3))?;
+        Term::binary(alloc, Op::And, least, most)
     }
 
     fn member_term(&self, alloc: Global, _w: Width) -> Result<Term, AllocError> {
-        let place = binary(alloc, Op::And, Term::Field(1), Term::Const(1))?;
-        let bit = binary(alloc, Op::Lshr, Term::Field(0), place)?;
-        binary(alloc, Op::And, bit, Term::Const(1))
+        let place = Term::binary(alloc, Op::And, Term::Field(1), Term::Const(1))?;
+        let bit = Term::binary(alloc, Op::Lshr, Term::Field(0), place)?;
+        Term::binary(alloc, Op::And, bit, Term::Const(1))
     }
+
+    ghost has_fields = { λ _. lit≤ tt };
 
     ghost has_members = { λ _. laws.has_members };
 

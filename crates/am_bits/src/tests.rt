@@ -1,6 +1,8 @@
+//! Each method at some tuples.
+
 ghost use Rattle.std.specs.Prelude.{◌^◌, ◌<◌};
 ghost use Rattle.am_bv.specs.Words.{AreWords};
-ghost use Rattle.am_domain.specs.Laws.{IsAbstract};
+ghost use Rattle.am_domain.specs.Meaning.{IsAbstract};
 
 use crate::{Congruence, Known, Parity};
 use am_bv::{Width, value};
@@ -103,9 +105,9 @@ fn check_join<D: Domain>(rt: &impl Abort, domain: &D, case: &Join) -> Result<(),
 fn of_both<D: Domain>(domain: &D, w: Width, c: u8, d: u8) -> Fields
     requires first { c < 2 ^ w }
     requires second { d < 2 ^ w }
-    ensures value { IsAbstract w (D.fields domain.now) (D.valid domain.now) result }
-    ensures first { D.member domain.now w result c }
-    ensures second { D.member domain.now w result d }
+    ensures value { IsAbstract (D.meaning domain.now) w result }
+    ensures first { (D.meaning domain.now).Member w result c }
+    ensures second { (D.meaning domain.now).Member w result d }
 {
     domain.join(w, &domain.of_word(w, c), &domain.of_word(w, d))
 }

@@ -1,6 +1,9 @@
 pub mod Words
-pub mod Laws
+pub mod ByKind
 pub mod Induction
 pub mod Values
+pub mod Fields
+pub mod Operators
 pub mod Same
 pub mod Shifts
+pub mod Laws

@@ -10,7 +10,7 @@ use Rattle.am_bv.specs.declared.term.Term.{Term}
 use Rattle.am_bv.specs.Words.{AreWords, complement, one_if}
 use Rattle.am_bv.specs.Operators.{apply, apply_at, lshr_of}
 use Rattle.am_bv.specs.Terms.{val, fits}
-use Rattle.am_bv.proofs.Laws.{val-Const, val-Field, val-Node, fits-Const, fits-Node}
+use Rattle.am_bv.proofs.ByKind.{val-Const, val-Field, val-Node, fits-Const, fits-Node}
 use Rattle.am_bv.proofs.Induction.{Steps, by_induction}
 
 either : (b : Bool) (m n p : ℕ) → m < p → n < p → cond b m n < p

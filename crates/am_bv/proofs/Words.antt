@@ -1,8 +1,10 @@
 -- What is left of a byte's arithmetic in the low bits of a word.
-use Rattle.std.proofs.Common.{◌≡◌, ℕ, zero, suc, ◌+◌, ◌-◌, ◌*◌, ◌%◌, ◌^◌, ◌<◌, ◌≤◌, subst, sym, ap, ◌∙◌, arith}
-use Rattle.std.proofs.Math.Nat.{mod-eq_of_lt, mod-mod_of_dvd, dvd-mul_left, mul-add-mod_self_right, suc-mul, pow-le-pow_right}
+use Rattle.std.proofs.Common.{◌≡◌, ℕ, zero, suc, ◌+◌, ◌-◌, ◌*◌, ◌%◌, ◌^◌, ◌<◌, ◌≤◌, subst, sym, ap, ◌∙◌, inl, inr, arith}
+use Rattle.std.proofs.Math.Nat.{mod-mod_of_dvd, dvd-mul_left, mul-add-mod_self_right, suc-mul, pow-le-pow_right}
 use Rattle.std.proofs.lemmas.Nat.{pow-add, pow_pos}
-use Rattle.am_bv.specs.Words.{complement}
+use Rattle.std.proofs.Math.Pow.{pow_mono}
+use Rattle.std.proofs.lemmas.Bool.{cases_lt}
+use Rattle.am_bv.specs.Words.{IsWidth}
 
 -- 2 ^ 8 is a multiple of 2 ^ w
 multiple : (w : ℕ) → w ≤ 8 → 2 ^ (8 - w) * 2 ^ w ≡ 2 ^ 8
@@ -28,21 +30,22 @@ borrowed w n h =
     let e : 2 ^ 8 - 2 ^ w + n ≡ k * 2 ^ w + n = omega (arith, split) in
     ap (λ m. m % 2 ^ w) e ∙ mul-add-mod_self_right k (2 ^ w) n
 
-pub truncated-complement : (w a : ℕ) → w ≤ 8 → a < 2 ^ w → (2 ^ 8 - 1 - a) % 2 ^ w ≡ complement w a
-truncated-complement w a h below =
-    let most = word_le_byte w h in
-    let e : 2 ^ 8 - 1 - a ≡ 2 ^ 8 - 2 ^ w + (2 ^ w - 1 - a) = omega (arith, most, below) in
-    let word : 2 ^ w - 1 - a < 2 ^ w = omega (arith, below) in
-    ap (λ m. m % 2 ^ w) e ∙ borrowed w (2 ^ w - 1 - a) h ∙ mod-eq_of_lt word
-
 pub truncated-difference : (w a b : ℕ) → w ≤ 8 → b < 2 ^ w → (a + (2 ^ 8 - b)) % 2 ^ 8 % 2 ^ w ≡ (a + (2 ^ w - b)) % 2 ^ w
 truncated-difference w a b h below =
     let most = word_le_byte w h in
     let e : a + (2 ^ 8 - b) ≡ 2 ^ 8 - 2 ^ w + (a + (2 ^ w - b)) = omega (arith, most, below) in
     truncated w (a + (2 ^ 8 - b)) h ∙ ap (λ m. m % 2 ^ w) e ∙ borrowed w (a + (2 ^ w - b)) h
 
+-- 1 is a word of every width
 pub one_is_word : (w : ℕ) → 2 ≤ w → 1 < 2 ^ w
 one_is_word w h =
     let two : 0 < 2 = omega arith in
     let least : 2 ^ 2 ≤ 2 ^ w = pow-le-pow_right two h in
     omega (arith, least)
+
+-- the greatest word is a byte from 3 on at the widths alone
+pub IsWidth-mask : (w m : ℕ) → m ≡ 2 ^ w - 1 → 3 ≤ m → m < 2 ^ 8 → IsWidth w
+IsWidth-mask w m is least byte = (
+  elim (cases_lt w 2) [ inl narrow ↦ let small : w ≤ 1 = omega arith in absurd (omega (arith, pow_mono small)) | inr wide ↦ wide ],
+  elim (cases_lt 8 w) [ inl wide ↦ let large : 9 ≤ w = omega arith in absurd (omega (arith, pow_mono large)) | inr few ↦ few ],
+)

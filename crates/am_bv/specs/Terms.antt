@@ -1,9 +1,21 @@
 -- Terms, each word of them a fold: one step at a node, over what the step gave at its arguments.
-use Rattle.std.specs.Prelude.{ℕ, ◌+◌, ◌^◌, Bool, ◌&&◌, List, length, slice_index, sum, nat_lt, ◌==◌}
+use Rattle.std.specs.Prelude.{ℕ, ◌+◌, ◌^◌, Bool, ◌&&◌, List, length, slice_index, slice_index_or, [], ◌∷◌, sum, nat_lt, ◌==◌}
 use Rattle.std.specs.List.{list_all}
 use Rattle.am_bv.specs.declared.term.Term.{Term, fold-Term}
+use Rattle.am_bv.specs.declared.op.Op.{Op}
 use Rattle.am_bv.specs.declared.term.Term.TheOpen.{Term-F, Const, Field, Node}
+use Rattle.am_bv.specs.declared.term.Term.TheVariants as term
 use Rattle.am_bv.specs.Operators.{arity, apply, weight_of}
+
+-- an operator at one, two and three arguments
+abbrev pub unary : Op → Term → Term
+unary op t = term.Node op (t ∷ [])
+
+abbrev pub binary : Op → Term → Term → Term
+binary op s t = term.Node op (s ∷ t ∷ [])
+
+abbrev pub ternary : Op → Term → Term → Term → Term
+ternary op r s t = term.Node op (r ∷ s ∷ t ∷ [])
 
 abbrev pub val_step : ℕ → List ℕ → Term-F ℕ → ℕ
 val_step w env (Const c) = c
@@ -40,3 +52,12 @@ weight_step w (Node op weights) = weight_of w op + sum weights
 -- the sum of the weights of the operators, at width w
 unfoldable pub weight : ℕ → Term → ℕ
 weight w t = fold-Term ℕ (weight_step w) t
+
+abbrev pub rename_step : List ℕ → Term-F Term → Term
+rename_step fields (Const c) = term.Const c
+rename_step fields (Field i) = term.Field (slice_index_or fields i i)
+rename_step fields (Node op args) = term.Node op args
+
+-- the term with the field at place i of a list for each field i; a field past the end of the list stays
+unfoldable pub rename : List ℕ → Term → Term
+rename fields t = fold-Term Term (rename_step fields) t

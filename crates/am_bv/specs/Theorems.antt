@@ -1,12 +1,13 @@
 -- Laws of operators and terms, for all widths, terms and rows of words. The functions of `theorems` prove them.
-use Rattle.std.specs.Prelude.{◌≡◌, ℕ, ◌+◌, ◌^◌, ◌<◌, ◌≤◌, List, length, map, sum_by, slice_index, IsTrue, nat_lt, ◌==◌, ◌&&◌}
+use Rattle.std.specs.Prelude.{◌≡◌, ℕ, ◌+◌, ◌^◌, ◌<◌, ◌≤◌, List, length, map, sum_by, slice_index, IsTrue, nat_lt, ◌==◌, ◌&&◌, slice_index_or, All, Contains}
 use Rattle.std.specs.List.{list_all}
 use Rattle.am_bv.specs.declared.op.Op.{Op}
 use Rattle.am_bv.specs.declared.term.Term.{Term}
 use Rattle.am_bv.specs.declared.term.Term.TheVariants.{Const, Field, Node}
 use Rattle.am_bv.specs.Words.{AreWords}
 use Rattle.am_bv.specs.Operators.{arity, apply, weight_of}
-use Rattle.am_bv.specs.Terms.{val, fits, nodes, weight}
+use Rattle.am_bv.specs.declared.op.TheConstants.Op.{ALL}
+use Rattle.am_bv.specs.Terms.{val, fits, nodes, weight, rename}
 
 -- the value of a term, kind by kind
 abbrev pub ConstHasItsWord : Type 0
@@ -61,3 +62,45 @@ abbrev pub FittingTermsGiveWords : Type 0
 FittingTermsGiveWords =
     (w : ℕ) → 1 ≤ w → (t : Term) (env : List ℕ) →
     IsTrue (fits w (length env) t) → AreWords w env → val w t env < 2 ^ w
+
+-- the list of all operators has each
+abbrev pub OperatorsAreListed : Type 0
+OperatorsAreListed = (op : Op) → Contains ALL op
+
+-- a term that fits a row of fields fits longer ones, and reads no field past that row
+abbrev pub FitsLongerRows : Type 0
+FitsLongerRows = (w m n : ℕ) → m ≤ n → (t : Term) → IsTrue (fits w m t) → IsTrue (fits w n t)
+
+abbrev pub SameAtSameFields : Type 0
+SameAtSameFields =
+    (w n : ℕ) (env other : List ℕ) → ((i : ℕ) → i < n → slice_index env i ≡ slice_index other i) →
+    (t : Term) → IsTrue (fits w n t) → val w t env ≡ val w t other
+
+-- a term with renamed fields, kind by kind
+abbrev pub RenamedConst : Type 0
+RenamedConst = (fields : List ℕ) (c : ℕ) → rename fields (Const c) ≡ Const c
+
+abbrev pub RenamedField : Type 0
+RenamedField = (fields : List ℕ) (i : ℕ) → rename fields (Field i) ≡ Field (slice_index_or fields i i)
+
+abbrev pub RenamedNode : Type 0
+RenamedNode = (fields : List ℕ) (op : Op) (args : List Term) → rename fields (Node op args) ≡ Node op (map (rename fields) args)
+
+-- a renamed term has the value of the term at the words of the new fields
+abbrev pub RenamedReads : Type 0
+RenamedReads =
+    (w : ℕ) (fields env : List ℕ) (t : Term) → IsTrue (fits w (length fields) t) →
+    val w (rename fields t) env ≡ val w t (map (slice_index env) fields)
+
+-- a renamed term fits where its new fields do
+abbrev pub RenamedFits : Type 0
+RenamedFits =
+    (w n : ℕ) (fields : List ℕ) → All (λ i. i < n) fields → (t : Term) → IsTrue (fits w (length fields) t) →
+    IsTrue (fits w n (rename fields t))
+
+-- a renamed term has as many nodes and weighs as much
+abbrev pub RenamedNodes : Type 0
+RenamedNodes = (fields : List ℕ) (t : Term) → nodes (rename fields t) ≡ nodes t
+
+abbrev pub RenamedWeighs : Type 0
+RenamedWeighs = (w : ℕ) (fields : List ℕ) (t : Term) → weight w (rename fields t) ≡ weight w t

@@ -1,3 +1,5 @@
+//! The operators at words.
+
 ghost use Rattle.std.specs.Prelude.{◌≡◌, ◌-◌, ◌+◌, ◌%◌, ◌^◌, ◌<◌, ◌≤◌, length};
 ghost use Rattle.am_bv.specs.Words.{AreWords, complement, one_if};
 ghost use Rattle.am_bv.specs.Operators.{arity, apply, shl_of, lshr_of, ashr_of};
@@ -16,12 +18,12 @@ impl Op {
         let mask = w.mask();
         match self {
             Op::Not => complement(w, args[0]),
-            Op::Neg => difference(w, 0, args[0]),
+            Op::Neg => w.difference(0, args[0]),
             Op::And => args[0] & args[1],
             Op::Or => args[0] | args[1],
             Op::Xor => args[0] ^ args[1],
             Op::Add => w.truncate(args[0].wrapping_add(args[1])),
-            Op::Sub => difference(w, args[0], args[1]),
+            Op::Sub => w.difference(args[0], args[1]),
             Op::Mul => w.truncate(args[0].wrapping_mul(args[1])),
             Op::Udiv => args[0].checked_div(args[1]).unwrap_or(mask),
             Op::Urem => args[0].checked_rem(args[1]).unwrap_or(args[0]),
@@ -67,15 +69,7 @@ fn complement(w: Width, a: u8) -> u8
     ensures value { result ≡ complement w a }
     ensures word { result < 2 ^ w }
 {
-    w.truncate(!a)
-}
-
-fn difference(w: Width, a: u8, b: u8) -> u8
-    requires { b < 2 ^ w }
-    ensures value { result ≡ (a + (2 ^ w - b)) % 2 ^ w }
-    ensures word { result < 2 ^ w }
-{
-    w.truncate(a.wrapping_sub(b))
+    w.mask() - a
 }
 
 fn shift_left(w: Width, a: u8, by: u8) -> u8

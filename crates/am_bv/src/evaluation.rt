@@ -1,3 +1,5 @@
+//! The value of a term.
+
 ghost use Rattle.std.specs.Prelude.{◌≡◌, ◌^◌, ◌<◌, length, IsTrue};
 ghost use Rattle.am_bv.specs.Words.{AreWords};
 ghost use Rattle.am_bv.specs.Terms.{val, fits};
@@ -7,7 +9,7 @@ use crate::width::Width;
 use arrayvec::ArrayVec;
 
 /// The value of a term where field `i` has the word `env[i]`. Takes no memory.
-#[tactic(auto, using(crate::proofs::Laws::laws))]
+#[tactic(auto, using(crate::proofs::ByKind::laws))]
 pub fn value(w: Width, t: &Term, env: &[u8]) -> u8
     requires fits { IsTrue (fits w (length env.now) t.now) }
     requires words { AreWords w env.now }

@@ -18,6 +18,20 @@
 //!
 //! What the operators and terms mean stands in `specs/Words.antt`, `specs/Operators.antt` and
 //! `specs/Terms.antt`. [`theorems`] has laws on them for the proofs of other crates.
+//!
+//! # What is proved
+//!
+//! A word of width w, from 2 to 8, is a number below 2^w. The 23 operators are whole-number
+//! arithmetic modulo 2^w: division by zero gives the greatest word, the remainder by zero is the
+//! dividend, `shl` and `lshr` by w or more give 0, and `ashr` by w or more gives copies of the top
+//! bit. The value of a term, when it fits a width and a number of fields, its nodes and its weight
+//! are folds over the term. [`value`] and [`Op::apply`] equal these definitions, although the code
+//! works with masks and wrapping bytes. [`Op::arity`], [`Op::weight`], [`Term::fits`],
+//! [`Term::weight`] equal theirs; [`Term::nodes`] is the number of nodes, or 2^32 where there are
+//! more. [`Term::copy`] gives an equal term, and [`Term::rename`] the term with other fields.
+//! [`Term::equals`], which is what `==` answers, holds exactly where the terms are the same.
+//! [`Width::new`] is `None` exactly outside 2 to 8. A [`Row`] is the list of its items, unchanged
+//! by a refused push.
 #![tactic(auto)]
 
 mod apply;

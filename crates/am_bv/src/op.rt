@@ -1,10 +1,14 @@
+//! The operators of terms.
+
 ghost use Rattle.std.specs.Prelude.{◌≡◌, ◌≤◌};
 ghost use Rattle.am_bv.specs.Operators.{arity, weight_of};
 
 use crate::width::Width;
 
-/// The operators, named as SMT-LIB names them. All arguments and the value are words of one width;
-/// a comparison answers the word 1 where it holds and 0 where it doesn't.
+/// The operators. They are those of SMT-LIB's fixed-size bit-vectors and have their names without
+/// the prefix `bv`; `Eq` is its `=`, and `Ite` its `ite`. The names `Umin`, `Umax`, `Smin` and
+/// `Smax` are ours. All arguments and the value are words of one width: a comparison answers the
+/// word 1 where it holds and 0 where it doesn't, and `Ite` asks whether a word isn't 0.
 #[derive(Clone, Copy, PartialEq, Eq, Debug)]
 pub enum Op {
     /// The complement of each bit.
@@ -56,6 +60,33 @@ pub enum Op {
 }
 
 impl Op {
+    /// All operators, each of them once.
+    pub const ALL: [Op; 23] = [
+        Op::Not,
+        Op::Neg,
+        Op::And,
+        Op::Or,
+        Op::Xor,
+        Op::Add,
+        Op::Sub,
+        Op::Mul,
+        Op::Udiv,
+        Op::Urem,
+        Op::Shl,
+        Op::Lshr,
+        Op::Ashr,
+        Op::Eq,
+        Op::Ult,
+        Op::Ule,
+        Op::Slt,
+        Op::Sle,
+        Op::Umin,
+        Op::Umax,
+        Op::Smin,
+        Op::Smax,
+        Op::Ite,
+    ];
+
     /// The number of arguments that it takes.
     pub fn arity(self) -> u32
         ensures value { result ≡ arity self }

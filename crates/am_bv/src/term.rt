@@ -1,5 +1,7 @@
+//! Terms over a row of fields.
+
 ghost use Rattle.std.specs.Prelude.{◌≡◌, ◌*◌, ◌^◌, ◌<◌, ◌≤◌, ◌↔◌, IfOk, IsTrue, min};
-ghost use Rattle.am_bv.specs.Terms.{fits, nodes, weight};
+ghost use Rattle.am_bv.specs.Terms.{binary, fits, nodes, rename, ternary, unary, weight};
 
 use crate::op::Op;
 use crate::row::Row;
@@ -21,9 +23,45 @@ pub enum Term {
 pub type Terms = Row<Term>;
 
 impl Term {
+    /// An operator at one argument.
+    pub fn unary(alloc: Global, op: Op, argument: Term) -> Result<Term, AllocError>
+        ensures { IfOk result (λ t. t ≡ unary op argument) }
+    {
+        let mut args = Row::new(alloc);
+        args.push(argument)?;
+        Ok(Term::Node(op, args))
+    }
+
+    /// An operator at two arguments.
+    pub fn binary(alloc: Global, op: Op, first: Term, second: Term) -> Result<Term, AllocError>
+        ensures { IfOk result (λ t. t ≡ binary op first second) }
+    {
+        let mut args = Row::new(alloc);
+        args.push(first)?;
+        args.push(second)?;
+        Ok(Term::Node(op, args))
+    }
+
+    /// An operator at three arguments.
+    pub fn ternary(
+        alloc: Global,
+        op: Op,
+        first: Term,
+        second: Term,
+        third: Term,
+    ) -> Result<Term, AllocError>
+        ensures { IfOk result (λ t. t ≡ ternary op first second third) }
+    {
+        let mut args = Row::new(alloc);
+        args.push(first)?;
+        args.push(second)?;
+        args.push(third)?;
+        Ok(Term::Node(op, args))
+    }
+
     /// Whether each constant is a word of this width, each field is below `n`, and each operator has
     /// as many arguments as it takes.
-    #[tactic(auto, using(crate::proofs::Laws::laws))]
+    #[tactic(auto, using(crate::proofs::ByKind::laws))]
     pub fn fits(&self, w: Width, n: u32) -> bool
         ensures { result ≡ fits w n self.now }
     {
@@ -41,7 +79,7 @@ impl Term {
     }
 
     /// The number of operators and leaves, or 2^32 where there are more.
-    #[tactic(auto, using(crate::proofs::Laws::laws))]
+    #[tactic(auto, using(crate::proofs::ByKind::laws))]
     pub fn nodes(&self) -> u64
         ensures { result ≡ min (nodes self.now) (2 ^ 32) }
     {
@@ -58,7 +96,7 @@ impl Term {
     }
 
     /// The number of gates in its circuit, which is the sum of its operators' weights.
-    #[tactic(auto, using(crate::proofs::Laws::laws))]
+    #[tactic(auto, using(crate::proofs::ByKind::laws))]
     pub fn weight(&self, w: Width) -> u64
         requires { nodes self.now < 2 ^ 32 }
         ensures value { result ≡ weight w self.now }
@@ -89,6 +127,24 @@ impl Term {
                     copies.push(t.copy(alloc)?)?;
                 }
                 Ok(Term::Node(*op, copies))
+            }
+        }
+    }
+
+    /// The term with the field `fields[i]` for each field `i`. A field past the end of the list stays.
+    #[tactic(auto, using(crate::proofs::ByKind::laws))]
+    pub fn rename(&self, alloc: Global, fields: &[u32]) -> Result<Term, AllocError>
+        ensures { IfOk result (λ t. t ≡ rename fields.now self.now) }
+    {
+        match self {
+            Term::Const(c) => Ok(Term::Const(*c)),
+            Term::Field(i) => Ok(Term::Field(*fields.get(*i as usize).unwrap_or(i))),
+            Term::Node(op, args) => {
+                let mut renamed = Row::new(alloc);
+                for t in args.as_slice() {
+                    renamed.push(t.rename(alloc, fields)?)?;
+                }
+                Ok(Term::Node(*op, renamed))
             }
         }
     }

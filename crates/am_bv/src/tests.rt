@@ -1,3 +1,5 @@
+//! Corner words of each operator, and each public function on a small case.
+
 use crate::op::Op;
 use crate::row::Row;
 use crate::term::Term;
@@ -96,6 +98,19 @@ fn at(op: Op, w: Width, bytes: [u8; 3]) -> u8 {
 }
 
 #[test]
+fn widths(rt: HostRuntime) -> Result<(), Fail> {
+    for (bits, mask) in [(2, 3), (5, 31), (8, 255)] {
+        let w = Width::new(bits).ok_or("no width")?;
+        assert_eq!(rt; w.bits(), bits);
+        assert_eq!(rt; w.mask(), mask);
+        assert_eq!(rt; w.signed(mask), -1);
+    }
+    assert!(rt; Width::new(1).is_none());
+    assert!(rt; Width::new(9).is_none());
+    Ok(())
+}
+
+#[test]
 fn operators_at_corner_words(rt: HostRuntime) -> Result<(), Fail> {
     for (op, bits, weight, expected) in &CORNERS {
         let w = Width::new(*bits).ok_or("no width")?;
@@ -143,17 +158,9 @@ fn values_of_constants(rt: HostRuntime) -> Result<(), Fail> {
 
 /// `(ite (ult f0 3) (add f0 f1) f1)`
 fn conditional_sum(alloc: Global) -> Result<Term, AllocError> {
-    let mut compared = Row::new(alloc);
-    compared.push(Term::Field(0))?;
-    compared.push(Term::Const(3))?;
-    let mut added = Row::new(alloc);
-    added.push(Term::Field(0))?;
-    added.push(Term::Field(1))?;
-    let mut args = Row::new(alloc);
-    args.push(Term::Node(Op::Ult, compared))?;
-    args.push(Term::Node(Op::Add, added))?;
-    args.push(Term::Field(1))?;
-    Ok(Term::Node(Op::Ite, args))
+    let compared = Term::binary(alloc, Op::Ult, Term::Field(0), Term::Const(3))?;
+    let added = Term::binary(alloc, Op::Add, Term::Field(0), Term::Field(1))?;
+    Term::ternary(alloc, Op::Ite, compared, added, Term::Field(1))
 }
 
 #[test]
@@ -175,6 +182,34 @@ fn a_term_and_its_copy(rt: HostRuntime) -> Result<(), Fail> {
 }
 
 #[test]
+fn a_term_with_renamed_fields(rt: HostRuntime) -> Result<(), Fail> {
+    let w = Width::new(4).ok_or("no width")?;
+    let t = conditional_sum(rt.alloc())?;
+    let renamed = t.rename(rt.alloc(), &[3, 0])?;
+    assert!(rt; !renamed.fits(w, 3));
+    assert!(rt; renamed.fits(w, 4));
+    let words = [w.truncate(9), w.truncate(7), w.truncate(7), w.truncate(2)];
+    assert_eq!(rt; value(w, &renamed, &words), 11);
+    let past_the_list = t.rename(rt.alloc(), &[3])?;
+    assert!(rt; past_the_list.fits(w, 4));
+    assert_eq!(rt; value(w, &past_the_list, &words), 9);
+    let negated = Term::unary(rt.alloc(), Op::Neg, Term::Field(5))?;
+    let expected = Term::unary(rt.alloc(), Op::Neg, Term::Field(0))?;
+    assert_eq!(rt; negated.rename(rt.alloc(), &[1, 2, 3, 4, 5, 0])?, expected);
+    Ok(())
+}
+
+#[test]
+fn operators_in_their_order(rt: HostRuntime) -> Result<(), Fail> {
+    for (three, op) in CORNERS.chunks(3).zip(Op::ALL.iter()) {
+        for (listed, _, _, _) in three {
+            assert_eq!(rt; listed, op);
+        }
+    }
+    Ok(())
+}
+
+#[test]
 fn weights_add_up(rt: HostRuntime) -> Result<(), Fail> {
     let w = Width::new(4).ok_or("no width")?;
     let t = conditional_sum(rt.alloc())?;
@@ -191,7 +226,9 @@ fn rows_are_lists(rt: HostRuntime) -> Result<(), Fail> {
     assert_eq!(rt; row.len(), 2);
     assert_eq!(rt; *row.get(1), 7);
     assert_eq!(rt; row.as_slice(), [5, 7].as_slice());
+    assert!(rt; !row.is_empty());
     let empty = Row::<u32>::new(rt.alloc());
+    assert!(rt; empty.is_empty());
     assert!(rt; row != empty);
     Ok(())
 }

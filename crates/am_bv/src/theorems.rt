@@ -1,7 +1,7 @@
 //! Laws of terms for the proofs of other crates. Each function does nothing: its clauses are the
 //! laws, and a call brings them into the caller's proof.
 
-ghost use Rattle.am_bv.specs.Theorems.{ConstHasItsWord, FieldHasItsEntry, NodeHasItsOperatorsValue, ConstFitsAsWord, FieldFitsInRow, NodeFitsByArguments, ConstIsOneNode, FieldIsOneNode, NodeCountsItsArguments, ConstWeighsNothing, FieldWeighsNothing, NodeWeighsItsOperators, OperatorsGiveWords, FittingTermsGiveWords};
+ghost use Rattle.am_bv.specs.Theorems.{ConstHasItsWord, FieldHasItsEntry, NodeHasItsOperatorsValue, ConstFitsAsWord, FieldFitsInRow, NodeFitsByArguments, ConstIsOneNode, FieldIsOneNode, NodeCountsItsArguments, ConstWeighsNothing, FieldWeighsNothing, NodeWeighsItsOperators, OperatorsGiveWords, FittingTermsGiveWords, OperatorsAreListed, FitsLongerRows, SameAtSameFields, RenamedConst, RenamedField, RenamedNode, RenamedReads, RenamedFits, RenamedNodes, RenamedWeighs};
 
 /// What the value of a term is at each of its kinds.
 pub fn value_by_kind()
@@ -35,4 +35,31 @@ pub fn weight_by_kind()
 pub fn values_are_words()
     ensures operator { OperatorsGiveWords }
     ensures term { FittingTermsGiveWords }
+{}
+
+/// The list of all operators has each.
+pub fn operators_are_listed()
+    ensures { OperatorsAreListed }
+{}
+
+/// A term that fits a row of fields fits longer rows, and has the same value where the fields that
+/// it fits are the same.
+pub fn fields_past_the_row()
+    ensures fits { FitsLongerRows }
+    ensures value { SameAtSameFields }
+{}
+
+/// What renaming the fields gives at a term of each kind.
+pub fn rename_by_kind()
+    ensures constant { RenamedConst }
+    ensures field { RenamedField }
+    ensures node { RenamedNode }
+{}
+
+/// A renamed term reads the new fields, and keeps its nodes and its weight.
+pub fn rename_keeps()
+    ensures value { RenamedReads }
+    ensures fits { RenamedFits }
+    ensures nodes { RenamedNodes }
+    ensures weight { RenamedWeighs }
 {}

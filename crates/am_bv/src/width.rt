@@ -1,5 +1,7 @@
-ghost use Rattle.std.specs.Prelude.{◌≡◌, ◌-◌, ◌%◌, ◌^◌, ◌<◌, ◌≤◌, ◌⊎◌, IfSome, IfNone};
-ghost use Rattle.am_bv.specs.Words.{signed};
+//! Widths, and what a width does to bytes and words.
+
+ghost use Rattle.std.specs.Prelude.{◌≡◌, ◌+◌, ◌-◌, ◌%◌, ◌^◌, ◌<◌, ◌≤◌, SomeIff};
+ghost use Rattle.am_bv.specs.Words.{IsWidth, signed};
 
 use std::marker::Model;
 
@@ -10,13 +12,14 @@ pub struct Width {
 }
 
 impl Model for Width {
-    ghost use Rattle.std.specs.Prelude.{ℕ, ◌≤◌};
+    ghost use Rattle.std.specs.Prelude.{ℕ};
+    ghost use Rattle.am_bv.specs.Words.{IsWidth};
 
     ghost Value = { ℕ };
 
     ghost view = { λ w. w.bits };
 
-    ghost invariant = { λ w. (2 ≤ w.bits) × (w.bits ≤ 8) };
+    ghost invariant = { λ w. IsWidth w.bits };
 
     ghost inverse = { λ n. record { bits = n } };
 }
@@ -24,8 +27,7 @@ impl Model for Width {
 impl Width {
     /// The width of `n` bits, or None where `n` isn't from 2 to 8.
     pub fn new(n: u32) -> Option<Width>
-        ensures some { IfSome result (λ w. (w ≡ n) × (2 ≤ n) × (n ≤ 8)) }
-        ensures none { IfNone result ((n < 2) ⊎ (8 < n)) }
+        ensures { SomeIff result (IsWidth n) n }
     {
         if n < 2 || n > 8 {
             None
@@ -37,8 +39,7 @@ impl Width {
     /// The number of bits.
     pub fn bits(self) -> u32
         ensures value { result ≡ self }
-        ensures least { 2 ≤ self }
-        ensures most { self ≤ 8 }
+        ensures width { IsWidth result }
     {
         self.bits
     }
@@ -46,8 +47,7 @@ impl Width {
     /// The word whose bits are all set.
     pub fn mask(self) -> u8
         ensures value { result ≡ 2 ^ self - 1 }
-        ensures least { 2 ≤ self }
-        ensures most { self ≤ 8 }
+        ensures least { 3 ≤ result }
     {
         0xff >> (8 - self.bits)
     }
@@ -56,9 +56,17 @@ impl Width {
     pub fn truncate(self, byte: u8) -> u8
         ensures value { result ≡ byte % 2 ^ self }
         ensures word { result < 2 ^ self }
-        ensures most { self ≤ 8 }
     {
         byte & self.mask()
+    }
+
+    /// The difference modulo 2^w.
+    pub fn difference(self, c: u8, d: u8) -> u8
+        requires { d < 2 ^ self }
+        ensures value { result ≡ (c + (2 ^ self - d)) % 2 ^ self }
+        ensures word { result < 2 ^ self }
+    {
+        c.wrapping_sub(d) & self.mask()
     }
 
     /// The number that a word stands for in two's complement.

@@ -1,2 +1,6 @@
 pub mod Tuples
 pub mod Precision
+pub mod Walks
+pub mod Members
+pub mod Examples
+pub mod Laws

@@ -1,68 +1,65 @@
 -- The laws of an abstract domain, over words of every width.
-use Rattle.std.specs.Prelude.{◌≢◌, ℕ, ◌+◌, ◌*◌, ◌^◌, ◌<◌, ◌≤◌, ◌↔◌, List, IsTrue, MatchOption, take, slice_index}
+use Rattle.std.specs.Prelude.{◌≢◌, ℕ, ◌+◌, ◌*◌, ◌^◌, ◌<◌, ◌≤◌, ◌↔◌, Bool, not, ◌==◌, List, [], ◌∷◌, ◌++◌, IsTrue, MatchOption, take, slice_index}
 use Rattle.std.specs.declared.option.Option.{Option}
+use Rattle.am_bv.specs.Words.{IsWidth}
 use Rattle.am_bv.specs.Terms.{val, fits, nodes}
 use Rattle.am_bv.specs.declared.term.Term.{Term}
 use Rattle.am_domain.specs.Tuple.{IsTuple}
-
-abbrev pub IsWidth : ℕ → Type 0
-IsWidth w = (2 ≤ w) × (w ≤ 8)
-
--- a tuple of words that is an abstract value
-pub record IsAbstract (w fields : ℕ) (Valid : ℕ → List ℕ → Type 0) (a : List ℕ) : Type 0 where
-  pub tuple : IsTuple w fields a
-  pub valid : Valid w a
+use Rattle.am_domain.specs.Meaning.{Meaning, IsAbstract}
 
 -- each abstract value has a member
-abbrev pub HasMembers : ℕ → (ℕ → List ℕ → Type 0) → (ℕ → List ℕ → ℕ → Type 0) → (ℕ → List ℕ → ℕ) → Type 0
-HasMembers fields valid member some_member =
-    (w : ℕ) → IsWidth w → (a : List ℕ) → IsAbstract w fields valid a → (some_member w a < 2 ^ w) × member w a (some_member w a)
+abbrev pub HasMembers : Meaning → (ℕ → List ℕ → ℕ) → Type 0
+HasMembers m some_member =
+    (w : ℕ) → IsWidth w → (a : List ℕ) → IsAbstract m w a → (some_member w a < 2 ^ w) × m.Member w a (some_member w a)
 
 -- the greatest value has all words
-abbrev pub HasTop : ℕ → (ℕ → List ℕ → Type 0) → (ℕ → List ℕ → ℕ → Type 0) → (ℕ → List ℕ) → Type 0
-HasTop fields valid member top =
-    (w : ℕ) → IsWidth w → IsAbstract w fields valid (top w) × ((c : ℕ) → c < 2 ^ w → member w (top w) c)
+abbrev pub HasTop : Meaning → (ℕ → List ℕ) → Type 0
+HasTop m top = (w : ℕ) → IsWidth w → IsAbstract m w (top w) × ((c : ℕ) → c < 2 ^ w → m.Member w (top w) c)
 
 -- a word's value has the word
-abbrev pub HoldsWords : ℕ → (ℕ → List ℕ → Type 0) → (ℕ → List ℕ → ℕ → Type 0) → (ℕ → ℕ → List ℕ) → Type 0
-HoldsWords fields valid member of_word =
-    (w : ℕ) → IsWidth w → (c : ℕ) → c < 2 ^ w → IsAbstract w fields valid (of_word w c) × member w (of_word w c) c
+abbrev pub HoldsWords : Meaning → (ℕ → ℕ → List ℕ) → Type 0
+HoldsWords m of_word = (w : ℕ) → IsWidth w → (c : ℕ) → c < 2 ^ w → IsAbstract m w (of_word w c) × m.Member w (of_word w c) c
 
--- what a join has
-pub record IsJoin (w fields : ℕ) (valid : ℕ → List ℕ → Type 0) (member : ℕ → List ℕ → ℕ → Type 0) (a b joined : List ℕ) : Type 0 where
-  pub value : IsAbstract w fields valid joined
-  pub first : (c : ℕ) → c < 2 ^ w → member w a c → member w joined c
-  pub second : (c : ℕ) → c < 2 ^ w → member w b c → member w joined c
+-- a value that has the members of both
+pub record IsJoin (m : Meaning) (w : ℕ) (a b joined : List ℕ) : Type 0 where
+  pub value : IsAbstract m w joined
+  pub first : (c : ℕ) → c < 2 ^ w → m.Member w a c → m.Member w joined c
+  pub second : (c : ℕ) → c < 2 ^ w → m.Member w b c → m.Member w joined c
 
 -- the join of two values has the members of both
-abbrev pub JoinsAbove : ℕ → (ℕ → List ℕ → Type 0) → (ℕ → List ℕ → ℕ → Type 0) → (ℕ → List ℕ → List ℕ → List ℕ) → Type 0
-JoinsAbove fields valid member join =
-    (w : ℕ) → IsWidth w → (a b : List ℕ) → IsAbstract w fields valid a → IsAbstract w fields valid b → IsJoin w fields valid member a b (join w a b)
+abbrev pub JoinsAbove : Meaning → (ℕ → List ℕ → List ℕ → List ℕ) → Type 0
+JoinsAbove m join = (w : ℕ) → IsWidth w → (a b : List ℕ) → IsAbstract m w a → IsAbstract m w b → IsJoin m w a b (join w a b)
 
 -- the rank is bounded, and a join that changes a value has a smaller one
-pub record Descends (fields : ℕ) (valid : ℕ → List ℕ → Type 0) (join : ℕ → List ℕ → List ℕ → List ℕ) (rank : ℕ → List ℕ → ℕ) : Type 0 where
-  pub most : (w : ℕ) → IsWidth w → (a : List ℕ) → IsAbstract w fields valid a → rank w a ≤ fields * 2 ^ w
-  pub falls : (w : ℕ) → IsWidth w → (a b : List ℕ) → IsAbstract w fields valid a → IsAbstract w fields valid b →
+pub record Descends (m : Meaning) (join : ℕ → List ℕ → List ℕ → List ℕ) (rank : ℕ → List ℕ → ℕ) : Type 0 where
+  pub most : (w : ℕ) → IsWidth w → (a : List ℕ) → IsAbstract m w a → rank w a ≤ m.fields * 2 ^ w
+  pub falls : (w : ℕ) → IsWidth w → (a b : List ℕ) → IsAbstract m w a → IsAbstract m w b →
       join w a b ≢ a → rank w (join w a b) < rank w a
 
 -- what a raw tuple is tidied to: a value with all its members, or nothing where it has none
-abbrev pub Tidies : ℕ → (ℕ → List ℕ → Type 0) → (ℕ → List ℕ → ℕ → Type 0) → (ℕ → List ℕ → Option (List ℕ)) → Type 0
-Tidies fields valid member tidy =
-    (w : ℕ) → IsWidth w → (raw : List ℕ) → IsTuple w fields raw →
-    MatchOption (tidy w raw) ((c : ℕ) → c < 2 ^ w → ¬ member w raw c)
-    (λ a. IsAbstract w fields valid a × ((c : ℕ) → c < 2 ^ w → member w raw c → member w a c))
+abbrev pub Tidies : Meaning → (ℕ → List ℕ → Option (List ℕ)) → Type 0
+Tidies m tidy =
+    (w : ℕ) → IsWidth w → (raw : List ℕ) → IsTuple w m.fields raw →
+    MatchOption (tidy w raw) ((c : ℕ) → c < 2 ^ w → ¬ m.Member w raw c)
+    (λ a. IsAbstract m w a × ((c : ℕ) → c < 2 ^ w → m.Member w raw c → m.Member w a c))
 
--- a term that fits so many variables, isn't too large, and isn't 0 exactly where a fact holds
-pub record IsTestTerm (w fields variables : ℕ) (t : Term) (Holds : List ℕ → Type 0) : Type 0 where
-  pub fit : IsTrue (fits w variables t)
+-- The indicator of a fact about rows of so many words: a term that fits such rows and isn't 0 exactly where the fact holds.
+-- A domain with so many fields bounds its nodes.
+pub record IsIndicator (w fields row : ℕ) (t : Term) (Holds : List ℕ → Type 0) : Type 0 where
+  pub fit : IsTrue (fits w row t)
   pub small : nodes t ≤ 16 ^ fields
-  pub tells : (env : List ℕ) → IsTuple w variables env → (val w t env ≢ 0) ↔ Holds env
+  pub tells : (env : List ℕ) → IsTuple w row env → (val w t env ≢ 0) ↔ Holds env
 
 -- the term for validity, over the fields
-abbrev pub TellsValidity : ℕ → (ℕ → List ℕ → Type 0) → (ℕ → Term) → Type 0
-TellsValidity fields valid valid_term = (w : ℕ) → IsWidth w → IsTestTerm w fields fields (valid_term w) (valid w)
+abbrev pub TellsValidity : Meaning → (ℕ → Term) → Type 0
+TellsValidity m valid_term = (w : ℕ) → IsWidth w → IsIndicator w m.fields m.fields (valid_term w) (m.Valid w)
 
 -- the term for membership, over the fields and then the word
-abbrev pub TellsMembership : ℕ → (ℕ → List ℕ → ℕ → Type 0) → (ℕ → Term) → Type 0
-TellsMembership fields member member_term =
-    (w : ℕ) → IsWidth w → IsTestTerm w fields (fields + 1) (member_term w) (λ env. member w (take fields env) (slice_index env fields))
+abbrev pub TellsMembership : Meaning → (ℕ → Term) → Type 0
+TellsMembership m member_term =
+    (w : ℕ) → IsWidth w →
+    IsIndicator w m.fields (m.fields + 1) (member_term w) (λ env. m.Member w (take m.fields env) (slice_index env m.fields))
+
+-- whether a word is a member of a tuple, as the term for membership tells it
+abbrev pub is_member : ℕ → Term → List ℕ → ℕ → Bool
+is_member w member_term a c = not (val w member_term (a ++ c ∷ []) == 0)

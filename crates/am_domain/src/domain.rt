@@ -1,7 +1,10 @@
+//! Abstract domains, and the laws that each of them keeps.
+
 ghost use Rattle.std.specs.Prelude.{◌≡◌, ℕ, List, ◌<◌, ◌≤◌, ◌^◌, ◌↔◌, IsTrue, IfOk};
 ghost use Rattle.std.specs.declared.option.Option.{Option};
 ghost use Rattle.am_bv.specs.declared.term.Term.{Term};
-ghost use Rattle.am_domain.specs.Laws.{Descends, HasMembers, HasTop, HoldsWords, IsAbstract, JoinsAbove, TellsMembership, TellsValidity, Tidies};
+ghost use Rattle.am_domain.specs.Laws.{Descends, HasMembers, HasTop, HoldsWords, JoinsAbove, TellsMembership, TellsValidity, Tidies};
+ghost use Rattle.am_domain.specs.Meaning.{IsAbstract, Meaning};
 ghost use Rattle.am_domain.specs.Tuple.{IsTuple};
 
 use crate::fields::Fields;
@@ -13,47 +16,48 @@ use std::alloc::{AllocError, Global};
 /// Membership is defined for every tuple of words. The valid tuples are the abstract values. The
 /// laws stand below the methods, and generic code may cite them for every domain.
 pub trait Domain {
-    /// How many words a tuple has.
-    ghost fields: { Self → ℕ };
+    /// How many words a tuple has, which tuples are abstract values, and which words are members.
+    ghost meaning: { Self → Meaning };
 
-    /// Whether a tuple of words of a width is an abstract value.
-    ghost valid: { Self → ℕ → List ℕ → Type 0 };
-
-    /// Whether a word of a width is a member of a tuple.
-    ghost member: { Self → ℕ → List ℕ → ℕ → Type 0 };
-
+    /// The value that has all words.
     ghost top: { Self → ℕ → List ℕ };
 
+    /// A value that has the word.
     ghost of_word: { Self → ℕ → ℕ → List ℕ };
 
+    /// A member of a value.
     ghost some_member: { Self → ℕ → List ℕ → ℕ };
 
+    /// A value that has the members of both.
     ghost join: { Self → ℕ → List ℕ → List ℕ → List ℕ };
 
+    /// A value that has the members of a raw tuple, or nothing.
     ghost tidy: { Self → ℕ → List ℕ → Option (List ℕ) };
 
+    /// A number that falls with each join that changes the value.
     ghost rank: { Self → ℕ → List ℕ → ℕ };
 
+    /// A term that isn't 0 exactly where a tuple is valid.
     ghost valid_term: { Self → ℕ → Term };
 
+    /// A term that isn't 0 exactly where a word is a member of a tuple.
     ghost member_term: { Self → ℕ → Term };
 
     /// How many words a tuple has, from 1 to 4.
     fn fields(&self) -> u32
-        ensures value { result ≡ fields self.now }
-        ensures least { 1 ≤ result }
+        ensures value { result ≡ (meaning self.now).fields }
         ensures most { result ≤ 4 };
 
     /// Whether the tuple is an abstract value.
     fn valid(&self, w: Width, a: &Fields) -> bool
-        requires { IsTuple w (fields self.now) a.now }
-        ensures { IsTrue result ↔ valid self.now w a.now };
+        requires { IsTuple w (meaning self.now).fields a.now }
+        ensures { IsTrue result ↔ (meaning self.now).Valid w a.now };
 
     /// Whether the word is a member of the tuple.
     fn contains(&self, w: Width, a: &Fields, c: u8) -> bool
-        requires tuple { IsTuple w (fields self.now) a.now }
+        requires tuple { IsTuple w (meaning self.now).fields a.now }
         requires word { c < 2 ^ w }
-        ensures { IsTrue result ↔ member self.now w a.now c };
+        ensures { IsTrue result ↔ (meaning self.now).Member w a.now c };
 
     /// The value that has all words.
     fn top(&self, w: Width) -> Fields
@@ -66,23 +70,23 @@ pub trait Domain {
 
     /// A member of a value.
     fn some_member(&self, w: Width, a: &Fields) -> u8
-        requires { IsAbstract w (fields self.now) (valid self.now) a.now }
+        requires { IsAbstract (meaning self.now) w a.now }
         ensures { result ≡ some_member self.now w a.now };
 
     /// A value that has the members of both.
     fn join(&self, w: Width, a: &Fields, b: &Fields) -> Fields
-        requires first { IsAbstract w (fields self.now) (valid self.now) a.now }
-        requires second { IsAbstract w (fields self.now) (valid self.now) b.now }
+        requires first { IsAbstract (meaning self.now) w a.now }
+        requires second { IsAbstract (meaning self.now) w b.now }
         ensures { result ≡ join self.now w a.now b.now };
 
     /// A value that has the members of a raw tuple, or `None`, which comes only where it has none.
     fn tidy(&self, w: Width, raw: &Fields) -> Option<Fields>
-        requires { IsTuple w (fields self.now) raw.now }
+        requires { IsTuple w (meaning self.now).fields raw.now }
         ensures { result ≡ tidy self.now w raw.now };
 
     /// A number that falls with each join that changes the value.
     fn rank(&self, w: Width, a: &Fields) -> u32
-        requires { IsAbstract w (fields self.now) (valid self.now) a.now }
+        requires { IsAbstract (meaning self.now) w a.now }
         ensures { result ≡ rank self.now w a.now };
 
     /// A term over the fields of a tuple that isn't 0 exactly where the tuple is valid.
@@ -94,19 +98,30 @@ pub trait Domain {
     fn member_term(&self, alloc: Global, w: Width) -> Result<Term, AllocError>
         ensures { IfOk result (λ t. t ≡ member_term self.now w) };
 
-    ghost has_members: { (d : Self) → HasMembers (fields d) (valid d) (member d) (some_member d) };
+    /// A tuple has at least one word.
+    ghost has_fields: { (d : Self) → 1 ≤ (meaning d).fields };
 
-    ghost has_top: { (d : Self) → HasTop (fields d) (valid d) (member d) (top d) };
+    /// Each value has a member.
+    ghost has_members: { (d : Self) → HasMembers (meaning d) (some_member d) };
 
-    ghost holds_words: { (d : Self) → HoldsWords (fields d) (valid d) (member d) (of_word d) };
+    /// The greatest value has all words.
+    ghost has_top: { (d : Self) → HasTop (meaning d) (top d) };
 
-    ghost joins_above: { (d : Self) → JoinsAbove (fields d) (valid d) (member d) (join d) };
+    /// A word's value has the word.
+    ghost holds_words: { (d : Self) → HoldsWords (meaning d) (of_word d) };
 
-    ghost descends: { (d : Self) → Descends (fields d) (valid d) (join d) (rank d) };
+    /// A join has the members of both values.
+    ghost joins_above: { (d : Self) → JoinsAbove (meaning d) (join d) };
 
-    ghost tidies: { (d : Self) → Tidies (fields d) (valid d) (member d) (tidy d) };
+    /// The rank is bounded, and falls with each join that changes the value.
+    ghost descends: { (d : Self) → Descends (meaning d) (join d) (rank d) };
 
-    ghost tells_validity: { (d : Self) → TellsValidity (fields d) (valid d) (valid_term d) };
+    /// Tidying loses no member.
+    ghost tidies: { (d : Self) → Tidies (meaning d) (tidy d) };
 
-    ghost tells_membership: { (d : Self) → TellsMembership (fields d) (member d) (member_term d) };
+    /// The first term tells validity.
+    ghost tells_validity: { (d : Self) → TellsValidity (meaning d) (valid_term d) };
+
+    /// The second term tells membership.
+    ghost tells_membership: { (d : Self) → TellsMembership (meaning d) (member_term d) };
 }

@@ -11,12 +11,30 @@
 //! }
 //! ```
 //!
-//! The laws of a domain stand in `specs/Laws.antt`. The definitions of a sound and of a best transformer stand in `specs/Question.antt`, over any
-//! domain, operation and language of terms.
+//! What a domain means is one record, in `specs/Meaning.antt`, and its laws stand in `specs/Laws.antt`.
+//! A domain whose values are walks from one word to another keeps those of `specs/AnchoredLaws.antt`
+//! as well, and implements [`Anchored`]. The definitions of a sound and of a best transformer stand in
+//! `specs/Question.antt`, over any domain, operation, assumption and language of terms.
+//!
+//! # What is proved
+//!
+//! The trait's laws: each value has a member; `top` has all words; the value of a word has it; a
+//! join is a value with the members of both; the rank is at most the number of fields times 2^w,
+//! and a join that changes its first value has a smaller one; tidying a raw tuple loses no member,
+//! and gives nothing only where there is none; the two terms fit, are small, and are nonzero
+//! exactly where the tuple is valid, or the word a member. Generic code may use these laws for
+//! every domain. Only the makers of terms take memory. Of examples it is proved that a sound
+//! transformer covers every true positive one, and that one which betters another excludes each
+//! negative one that the other excludes (`specs/CentralLaw.antt`).
 #![tactic(auto)]
 
+mod anchored;
 mod domain;
 mod fields;
 
+pub use anchored::Anchored;
 pub use domain::Domain;
 pub use fields::Fields;
+
+#[cfg(test)]
+mod tests;

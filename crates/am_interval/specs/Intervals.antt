@@ -3,6 +3,7 @@
 use Rattle.std.specs.Prelude.{ℕ, ◌-◌, ◌^◌, if◌then◌else◌, List, [], ◌∷◌, slice_index, Some, None, ℤ, pos, ◌≤ℤ◌, int_lt, int_le}
 use Rattle.std.specs.Int.{int_gap}
 use Rattle.std.specs.declared.option.Option.{Option}
+use Rattle.am_domain.specs.Meaning.{Meaning}
 
 -- the whole number that a word of some width is read as; `signed` is another such reading
 abbrev pub Reading : Type 0
@@ -24,6 +25,10 @@ IsInterval number w a = number w (least a) ≤ℤ number w (greatest a)
 -- a word between the ends
 abbrev pub IsBetween : Reading → ℕ → List ℕ → ℕ → Type 0
 IsBetween number w a c = (number w (least a) ≤ℤ number w c) × (number w c ≤ℤ number w (greatest a))
+
+-- the domain of intervals in the order of these numbers
+abbrev pub intervals : Reading → Meaning
+intervals number = record { fields = 2; Valid = IsInterval number; Member = IsBetween number }
 
 -- the interval of all words, in unsigned and in signed order
 abbrev pub unsigned_top : ℕ → List ℕ

@@ -1,3 +1,3 @@
 pub mod Intervals
-pub mod TestTerms
+pub mod Terms
 pub mod lemmas

@@ -1,3 +1,4 @@
 pub mod Numbers
 pub mod Laws
-pub mod TestTerms
+pub mod Terms
+pub mod Walks

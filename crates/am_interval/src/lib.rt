@@ -14,12 +14,17 @@
 //! ```
 //!
 //! The definitions stand in `specs/Intervals.antt`, once for both ways to read a word as a number,
-//! and those of the terms that test validity and membership in `specs/TestTerms.antt`. The proofs of
+//! and those of the terms for validity and membership in `specs/Terms.antt`. The proofs of
 //! the laws are in `specs/lemmas`.
+//!
+//! # What is proved
+//!
+//! Each method equals its row of the definitions, and each law is proved for all words and tuples
+//! of every width from 2 to 8.
 #![tactic(auto)]
 
-mod interval;
 mod signed;
+mod terms;
 mod unsigned;
 
 pub use signed::Signed;

@@ -1,16 +1,20 @@
+//! Intervals of words as numbers in two's complement.
+
 ghost use Rattle.std.specs.Prelude.{◌≡◌, ◌^◌, ◌<◌};
+ghost use Rattle.std.proofs.Common.{lit≤, refl};
 ghost use Rattle.am_bv.specs.Words.{signed};
 ghost use Rattle.am_bv.specs.declared.op.Op.TheVariants.{Sle};
-ghost use Rattle.am_interval.specs.Intervals.{IsBetween, IsInterval, greater, greatest, hull, least, lesser, point, signed_top, tidied, words_outside};
-ghost use Rattle.am_interval.specs.TestTerms.{between_test, order_test};
+ghost use Rattle.am_interval.specs.Intervals.{intervals, greater, greatest, hull, least, lesser, point, signed_top, tidied, words_outside};
+ghost use Rattle.am_interval.specs.Terms.{between_term, order_term};
 ghost use Rattle.am_interval.specs.lemmas.Laws as laws;
 ghost use Rattle.am_interval.specs.lemmas.Numbers.{signed_top-IsTop};
-ghost use Rattle.am_interval.specs.lemmas.TestTerms.{Sle-IsAtMost};
-ghost use Rattle.am_interval.specs.lemmas.TestTerms as terms;
+ghost use Rattle.am_interval.specs.lemmas.Terms.{Sle-IsAtMost};
+ghost use Rattle.am_interval.specs.lemmas.Terms as terms;
+ghost use Rattle.am_interval.specs.lemmas.Walks as walks;
 
-use crate::interval::{between_test, interval, order_test};
+use crate::terms::{between_term, order_term};
 use am_bv::{Op, Term, Width};
-use am_domain::{Domain, Fields};
+use am_domain::{Anchored, Domain, Fields};
 use std::alloc::{AllocError, Global};
 
 /// The domain of signed intervals. A value is a least and a greatest word, and its members are the
@@ -37,11 +41,7 @@ fn greater(w: Width, c: u8, d: u8) -> u8
 }
 
 impl Domain for Signed {
-    ghost fields = { λ _. 2 };
-
-    ghost valid = { λ _. IsInterval signed };
-
-    ghost member = { λ _. IsBetween signed };
+    ghost meaning = { λ _. intervals signed };
 
     ghost top = { λ _. signed_top };
 
@@ -55,9 +55,9 @@ impl Domain for Signed {
 
     ghost rank = { λ _. words_outside signed };
 
-    ghost valid_term = { λ _ w. order_test Sle };
+    ghost valid_term = { λ _ w. order_term Sle };
 
-    ghost member_term = { λ _ w. between_test Sle };
+    ghost member_term = { λ _ w. between_term Sle };
 
     fn fields(&self) -> u32 {
         2
@@ -74,11 +74,11 @@ impl Domain for Signed {
 
     fn top(&self, w: Width) -> Fields {
         let last = w.mask() >> 1;
-        interval(last + 1, last)
+        Fields::pair(last + 1, last)
     }
 
     fn of_word(&self, _w: Width, c: u8) -> Fields {
-        interval(c, c)
+        Fields::pair(c, c)
     }
 
     fn some_member(&self, _w: Width, a: &Fields) -> u8 {
@@ -86,7 +86,7 @@ impl Domain for Signed {
     }
 
     fn join(&self, w: Width, a: &Fields, b: &Fields) -> Fields {
-        interval(
+        Fields::pair(
             lesser(w, a.get(0), b.get(0)),
             greater(w, a.get(1), b.get(1)),
         )
@@ -94,7 +94,7 @@ impl Domain for Signed {
 
     fn tidy(&self, w: Width, raw: &Fields) -> Option<Fields> {
         if self.valid(w, raw) {
-            Some(interval(raw.get(0), raw.get(1)))
+            Some(raw.copy())
         } else {
             None
         }
@@ -106,12 +106,14 @@ impl Domain for Signed {
     }
 
     fn valid_term(&self, alloc: Global, _w: Width) -> Result<Term, AllocError> {
-        order_test(alloc, Op::Sle)
+        order_term(alloc, Op::Sle)
     }
 
     fn member_term(&self, alloc: Global, _w: Width) -> Result<Term, AllocError> {
-        between_test(alloc, Op::Sle)
+        between_term(alloc, Op::Sle)
     }
+
+    ghost has_fields = { λ _. lit≤ tt };
 
     ghost has_members = { λ _. laws.has_members signed };
 
@@ -128,4 +130,18 @@ impl Domain for Signed {
     ghost tells_validity = { λ _. terms.tells_validity signed Sle Sle-IsAtMost };
 
     ghost tells_membership = { λ _. terms.tells_membership signed Sle Sle-IsAtMost };
+}
+
+impl Anchored for Signed {
+    ghost has_two_fields = { λ _. refl };
+
+    ghost has_start = { λ _. walks.has_start signed };
+
+    ghost has_points = { λ _. walks.has_points };
+
+    ghost keeps_start = { λ _. walks.keeps_start signed };
+
+    ghost walks_members = { λ _. walks.walks_members signed walks.signed-IsModular };
+
+    ghost has_parts = { λ _. walks.has_parts signed walks.signed-IsModular };
 }

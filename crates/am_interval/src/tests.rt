@@ -1,10 +1,11 @@
+//! Each method at some words and tuples.
+
 ghost use Rattle.std.specs.Prelude.{◌≡◌, ◌^◌, ◌<◌, [], ◌∷◌};
-ghost use Rattle.am_domain.specs.Laws.{IsAbstract};
+ghost use Rattle.am_domain.specs.Meaning.{IsAbstract};
 ghost use Rattle.am_domain.specs.Tuple.{IsTuple};
 
-use crate::interval::interval;
 use crate::{Signed, Unsigned};
-use am_bv::{Op, Row, Term, Width};
+use am_bv::{Op, Term, Width};
 use am_domain::{Domain, Fields};
 use std::alloc::{AllocError, Global};
 use std::process::Abort;
@@ -98,15 +99,15 @@ static SIGNED: [Case; 3] = [
 ];
 
 /// The tuple of two bytes, cut down to words.
-#[tactic(auto, using(crate::specs::lemmas::Numbers::two_words))]
+#[tactic(auto, using(crate::specs::lemmas::Numbers::tuples))]
 fn tuple(w: Width, ends: [u8; 2]) -> Fields
     ensures { IsTuple w 2 result }
 {
-    interval(w.truncate(ends[0]), w.truncate(ends[1]))
+    Fields::pair(w.truncate(ends[0]), w.truncate(ends[1]))
 }
 
 fn check<D: Domain>(rt: &impl Abort, domain: &D, case: &Case) -> Result<(), Fail>
-    requires { D.fields domain.now ≡ 2 }
+    requires { (D.meaning domain.now).fields ≡ 2 }
 {
     let w = Width::new(case.bits).ok_or("no width")?;
     let first = tuple(w, case.first);
@@ -140,19 +141,16 @@ fn check<D: Domain>(rt: &impl Abort, domain: &D, case: &Case) -> Result<(), Fail
 fn of_both<D: Domain>(domain: &D, w: Width, c: u8, d: u8) -> Fields
     requires first { c < 2 ^ w }
     requires second { d < 2 ^ w }
-    ensures value { IsAbstract w (D.fields domain.now) (D.valid domain.now) result }
-    ensures first { D.member domain.now w result c }
-    ensures second { D.member domain.now w result d }
+    ensures value { IsAbstract (D.meaning domain.now) w result }
+    ensures first { (D.meaning domain.now).Member w result c }
+    ensures second { (D.meaning domain.now).Member w result d }
 {
     domain.join(w, &domain.of_word(w, c), &domain.of_word(w, d))
 }
 
 /// An operator at two fields.
 fn at_fields(alloc: Global, op: Op, i: u32, j: u32) -> Result<Term, AllocError> {
-    let mut args = Row::new(alloc);
-    args.push(Term::Field(i))?;
-    args.push(Term::Field(j))?;
-    Ok(Term::Node(op, args))
+    Term::binary(alloc, op, Term::Field(i), Term::Field(j))
 }
 
 fn check_terms<D: Domain>(
@@ -166,10 +164,10 @@ fn check_terms<D: Domain>(
         domain.valid_term(alloc, w)?,
         at_fields(alloc, at_most, 0, 1)?
     );
-    let mut both = Row::new(alloc);
-    both.push(at_fields(alloc, at_most, 0, 2)?)?;
-    both.push(at_fields(alloc, at_most, 2, 1)?)?;
-    assert_eq!(rt; domain.member_term(alloc, w)?, Term::Node(Op::And, both));
+    let above = at_fields(alloc, at_most, 0, 2)?;
+    let below = at_fields(alloc, at_most, 2, 1)?;
+    let both = Term::binary(alloc, Op::And, above, below)?;
+    assert_eq!(rt; domain.member_term(alloc, w)?, both);
     Ok(())
 }
 
@@ -190,7 +188,7 @@ fn signed_intervals(rt: HostRuntime) -> Result<(), Fail> {
 }
 
 #[test]
-fn terms_of_tests(rt: HostRuntime) -> Result<(), Fail> {
+fn terms_for_intervals(rt: HostRuntime) -> Result<(), Fail> {
     check_terms(&rt, rt.alloc(), &Unsigned, Op::Ule)?;
     check_terms(&rt, rt.alloc(), &Signed, Op::Sle)
 }

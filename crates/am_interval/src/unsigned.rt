@@ -1,14 +1,18 @@
+//! Intervals of words as unsigned numbers.
+
+ghost use Rattle.std.proofs.Common.{lit≤, refl};
 ghost use Rattle.am_bv.specs.declared.op.Op.TheVariants.{Ule};
-ghost use Rattle.am_interval.specs.Intervals.{IsBetween, IsInterval, greatest, hull, least, point, tidied, unsigned, unsigned_top, words_outside};
-ghost use Rattle.am_interval.specs.TestTerms.{between_test, order_test};
+ghost use Rattle.am_interval.specs.Intervals.{intervals, greatest, hull, least, point, tidied, unsigned, unsigned_top, words_outside};
+ghost use Rattle.am_interval.specs.Terms.{between_term, order_term};
 ghost use Rattle.am_interval.specs.lemmas.Laws as laws;
 ghost use Rattle.am_interval.specs.lemmas.Numbers.{unsigned_top-IsTop};
-ghost use Rattle.am_interval.specs.lemmas.TestTerms.{Ule-IsAtMost};
-ghost use Rattle.am_interval.specs.lemmas.TestTerms as terms;
+ghost use Rattle.am_interval.specs.lemmas.Terms.{Ule-IsAtMost};
+ghost use Rattle.am_interval.specs.lemmas.Terms as terms;
+ghost use Rattle.am_interval.specs.lemmas.Walks as walks;
 
-use crate::interval::{between_test, interval, order_test};
+use crate::terms::{between_term, order_term};
 use am_bv::{Op, Term, Width};
-use am_domain::{Domain, Fields};
+use am_domain::{Anchored, Domain, Fields};
 use std::alloc::{AllocError, Global};
 
 /// The domain of unsigned intervals. A value is a least and a greatest word, and its members are the
@@ -17,11 +21,7 @@ use std::alloc::{AllocError, Global};
 pub struct Unsigned;
 
 impl Domain for Unsigned {
-    ghost fields = { λ _. 2 };
-
-    ghost valid = { λ _. IsInterval unsigned };
-
-    ghost member = { λ _. IsBetween unsigned };
+    ghost meaning = { λ _. intervals unsigned };
 
     ghost top = { λ _. unsigned_top };
 
@@ -35,9 +35,9 @@ impl Domain for Unsigned {
 
     ghost rank = { λ _. words_outside unsigned };
 
-    ghost valid_term = { λ _ w. order_test Ule };
+    ghost valid_term = { λ _ w. order_term Ule };
 
-    ghost member_term = { λ _ w. between_test Ule };
+    ghost member_term = { λ _ w. between_term Ule };
 
     fn fields(&self) -> u32 {
         2
@@ -52,11 +52,11 @@ impl Domain for Unsigned {
     }
 
     fn top(&self, w: Width) -> Fields {
-        interval(0, w.mask())
+        Fields::pair(0, w.mask())
     }
 
     fn of_word(&self, _w: Width, c: u8) -> Fields {
-        interval(c, c)
+        Fields::pair(c, c)
     }
 
     fn some_member(&self, _w: Width, a: &Fields) -> u8 {
@@ -64,12 +64,12 @@ impl Domain for Unsigned {
     }
 
     fn join(&self, _w: Width, a: &Fields, b: &Fields) -> Fields {
-        interval(a.get(0).min(b.get(0)), a.get(1).max(b.get(1)))
+        Fields::pair(a.get(0).min(b.get(0)), a.get(1).max(b.get(1)))
     }
 
     fn tidy(&self, w: Width, raw: &Fields) -> Option<Fields> {
         if self.valid(w, raw) {
-            Some(interval(raw.get(0), raw.get(1)))
+            Some(raw.copy())
         } else {
             None
         }
@@ -80,12 +80,14 @@ impl Domain for Unsigned {
     }
 
     fn valid_term(&self, alloc: Global, _w: Width) -> Result<Term, AllocError> {
-        order_test(alloc, Op::Ule)
+        order_term(alloc, Op::Ule)
     }
 
     fn member_term(&self, alloc: Global, _w: Width) -> Result<Term, AllocError> {
-        between_test(alloc, Op::Ule)
+        between_term(alloc, Op::Ule)
     }
+
+    ghost has_fields = { λ _. lit≤ tt };
 
     ghost has_members = { λ _. laws.has_members unsigned };
 
@@ -102,4 +104,18 @@ impl Domain for Unsigned {
     ghost tells_validity = { λ _. terms.tells_validity unsigned Ule Ule-IsAtMost };
 
     ghost tells_membership = { λ _. terms.tells_membership unsigned Ule Ule-IsAtMost };
+}
+
+impl Anchored for Unsigned {
+    ghost has_two_fields = { λ _. refl };
+
+    ghost has_start = { λ _. walks.has_start unsigned };
+
+    ghost has_points = { λ _. walks.has_points };
+
+    ghost keeps_start = { λ _. walks.keeps_start unsigned };
+
+    ghost walks_members = { λ _. walks.walks_members unsigned walks.unsigned-IsModular };
+
+    ghost has_parts = { λ _. walks.has_parts unsigned walks.unsigned-IsModular };
 }

@@ -17,6 +17,21 @@
 //!     }
 //! }
 //! ```
+//!
+//! # What is proved
+//!
+//! A [`Source`] gives the next bytes of its input, `Ok(0)` is its end, and a call fails exactly
+//! where the source's count of faults rises. A [`Sink`] takes one byte or more of each piece, or
+//! fails and takes none. [`read_all`] returns all bytes up to the end, at most `limit` of them; it
+//! answers `ReadFault` exactly where the count rose and `Long` exactly where `limit + 1` bytes were
+//! taken; after any other answer at most `limit` bytes are gone; it makes at most `limit + 1`
+//! calls, which a clause says as a bound on any count that rises by at most one with each call.
+//! [`write_all`] answers Ok only after the sink took the whole text in order and a `finish`
+//! succeeded, and `WriteFault` exactly where the count rose; after every answer the sink has taken
+//! a prefix of the text; it takes no memory. The memory types fail at exactly the listed calls, and
+//! the sink also at a `put` without room; they move exactly the least of the step, what is left,
+//! and the length of the buffer or piece. On the standard streams an error, and nothing else but a
+//! write of no byte, is counted as a fault.
 #![tactic(auto)]
 
 mod memory;

@@ -12,13 +12,13 @@ use Rattle.am_domain.specs.Question.{Question, IsBest, IsAbsent}
 use Rattle.amurth.specs.Answer.{IsAnswerOf, text_of_best}
 use Rattle.amurth.specs.Asked.{IsAsked, asked}
 use Rattle.amurth.specs.Choices.{tuple_at, tuple_count}
-use Rattle.amurth.specs.Domains.{valid_of, member_of}
+use Rattle.amurth.specs.Domains.{meaning_of}
 use Rattle.amurth.specs.Built.{IsBuilt}
 use Rattle.amurth.specs.Problem.{Problem, Rule, fields_of, productions_of}
 
 -- what a problem asks of terms from these lists
 abbrev question_over : Problem → List (List Term) → Question
-question_over p choices = asked p.width (fields_of p.kind) p.operation (valid_of p.kind p.width) (member_of p.kind p.width) choices
+question_over p choices = asked p.width (meaning_of p.kind) p.operation choices
 
 -- what holds of no productions, and of each rule's, holds of those of any name
 productions_of-every : (P : List Term → Type 0) → P [] → (rules : List Rule) → All (λ r. P r.productions) rules → (name : List ℕ) → P (productions_of rules name)

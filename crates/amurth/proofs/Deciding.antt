@@ -6,8 +6,9 @@ use Rattle.std.specs.Prelude.{MatchOption, MatchBool, None, Some, IsTrue, Bool, 
 use Rattle.am_bv.specs.Terms.{val}
 use Rattle.am_bv.specs.declared.term.Term.{Term}
 use Rattle.am_domain.specs.Tuple.{IsTuple}
+use Rattle.am_domain.specs.Meaning.{Meaning, IsAbstract}
 use Rattle.am_domain.specs.Question.{Question, AreInputs, AreMembers, IsSound, IsWithin, Exceeds, Betters, IsBest, IsAbsent, results}
-use Rattle.am_domain.proofs.Precision.{Betters-trans}
+use Rattle.am_domain.proofs.Laws.{Betters-trans}
 use Rattle.amurth.specs.Choices.{tuple_count, tuple_at}
 use Rattle.amurth.specs.Numbered.{words_at}
 use Rattle.amurth.specs.Asked.{asked, Covers, Misses, Includes, Lacks}
@@ -17,9 +18,18 @@ use Rattle.amurth.proofs.Numbering.{IsTuple-place, Picks-number, tuple_at-Picks}
 pub at_each_tuple : (w k : ℕ) (P : List ℕ → Type 0) → ((n : ℕ) → n < 2 ^ (w * k) → P (words_at w k n)) → (a : List ℕ) → IsTuple w k a → P a
 at_each_tuple w k P h a tuple = let place = IsTuple-place w k a tuple in subst P place.gives (h place.place place.below)
 
-module _ (w k : ℕ) (operation : Term) (Valid : List ℕ → Type 0) (Member : List ℕ → ℕ → Type 0) (choices : List (List Term)) where
+module _ (w : ℕ) (m : Meaning) (operation : Term) (choices : List (List Term)) where
   abbrev q : Question
-  q = asked w k operation Valid Member choices
+  q = asked w m operation choices
+
+  abbrev k : ℕ
+  k = m.fields
+
+  abbrev Valid : List ℕ → Type 0
+  Valid = m.Valid w
+
+  abbrev Member : List ℕ → ℕ → Type 0
+  Member = m.Member w
 
   abbrev result_at : List Term → List ℕ → List ℕ
   result_at terms a = map (λ t. val w t a) terms
@@ -30,21 +40,23 @@ module _ (w k : ℕ) (operation : Term) (Valid : List ℕ → Type 0) (Member : 
   only_input : (a : List ℕ) → IsTuple w k a → Valid a → AreInputs q (a ∷ [])
   only_input a tuple valid = record {
     counted = refl;
-    tuples = λ i d h. elim i as (λ j. j < 1 → IsTuple w k (get_or (a ∷ []) j d)) [ zero ↦ λ _. tuple | suc j ↦ λ l. absurd (omega arith) ] h;
-    valid = λ i d h. elim i as (λ j. j < 1 → Valid (get_or (a ∷ []) j d)) [ zero ↦ λ _. valid | suc j ↦ λ l. absurd (omega arith) ] h;
+    values = λ i d h. elim i as (λ j. j < 1 → IsAbstract m w (get_or (a ∷ []) j d)) [
+      | zero ↦ λ _. record { tuple = tuple; valid = valid }
+      | suc j ↦ λ l. absurd (omega arith)
+    ] h;
   }
 
   -- what holds at each valid tuple holds at each input
   at_each_input : (P : List (List ℕ) → Type 0) → ((a : List ℕ) → IsTuple w k a → Valid a → P (a ∷ [])) → (inputs : List (List ℕ)) → AreInputs q inputs → P inputs
   at_each_input P all [] h = absurd (omega (arith, h.counted))
-  at_each_input P all (a ∷ []) h = all a (h.tuples 0 a (omega arith)) (h.valid 0 a (omega arith))
+  at_each_input P all (a ∷ []) h = let value = h.values 0 a (omega arith) in all a value.tuple value.valid
   at_each_input P all (a ∷ b ∷ more) h = absurd (omega (arith, h.counted))
 
   pub IsSound-from_places : (terms : List Term) →
       ((n : ℕ) → n < 2 ^ (w * k) → Valid (words_at w k n) → Covers w operation Member (words_at w k n) (result_at terms (words_at w k n))) → IsSound q terms
   IsSound-from_places terms all =
-      at_each_input (λ inputs. (words : List ℕ) → AreMembers q inputs words → Member (results q terms inputs) (val w operation words))
-      (λ a tuple valid words. sound_at a (at_each_tuple w k (λ b. Valid b → Covers w operation Member b (result_at terms b)) all a tuple valid) words)
+      at_each_input (λ inputs. (words : List ℕ) → AreMembers q inputs words → q.Assumed words → Member (results q terms inputs) (val w operation words))
+      (λ a tuple valid words members _. sound_at a (at_each_tuple w k (λ b. Valid b → Covers w operation Member b (result_at terms b)) all a tuple valid) words members)
     where
       sound_at : (a : List ℕ) → Covers w operation Member a (result_at terms a) → (words : List ℕ) → AreMembers q (a ∷ []) words → Member (results q terms (a ∷ [])) (val w operation words)
       sound_at a covers [] h = absurd h
@@ -53,7 +65,7 @@ module _ (w k : ℕ) (operation : Term) (Valid : List ℕ → Type 0) (Member : 
 
   pub unsound : (terms : List Term) (a : List ℕ) → IsTuple w k a → Valid a → Misses w operation Member a (result_at terms a) → ¬ IsSound q terms
   unsound terms a tuple valid misses sound =
-      misses.3 (subst (λ r. Member r (val w operation (misses.0 ∷ []))) (results-one terms a) (sound (a ∷ []) (only_input a tuple valid) (misses.0 ∷ []) (misses.1, misses.2, tt)))
+      misses.3 (subst (λ r. Member r (val w operation (misses.0 ∷ []))) (results-one terms a) (sound (a ∷ []) (only_input a tuple valid) (misses.0 ∷ []) (misses.1, misses.2, tt) tt))
 
   pub IsWithin-from_places : (inner outer : List Term) →
       ((n : ℕ) → n < 2 ^ (w * k) → Valid (words_at w k n) → Includes w Member (result_at outer (words_at w k n)) (result_at inner (words_at w k n))) → IsWithin q inner outer
@@ -132,19 +144,19 @@ module _ (q : Question) (choices : List (List Term)) (n : ℕ) where
   Found-left (Some b) found test = Found-kept b found test
 
 -- the search through all tuples answers the question
-pub Found-all : (w k : ℕ) (operation : Term) (Valid : List ℕ → Type 0) (Member : List ℕ → ℕ → Type 0) (choices : List (List Term)) (best : Option ℕ) →
-    Found (asked w k operation Valid Member choices) choices (tuple_count choices) best →
-    MatchOption best (IsAbsent (asked w k operation Valid Member choices)) (λ b. (b < tuple_count choices) × IsBest (asked w k operation Valid Member choices) (tuple_at choices b))
-Found-all w k operation Valid Member choices None found = λ terms picks sound.
+pub Found-all : (w : ℕ) (m : Meaning) (operation : Term) (choices : List (List Term)) (best : Option ℕ) →
+    Found (asked w m operation choices) choices (tuple_count choices) best →
+    MatchOption best (IsAbsent (asked w m operation choices)) (λ b. (b < tuple_count choices) × IsBest (asked w m operation choices) (tuple_at choices b))
+Found-all w m operation choices None found = λ terms picks sound.
     let named = Picks-number choices terms picks in
-    found named.number named.below (subst (IsSound (asked w k operation Valid Member choices)) (sym named.gives) sound)
-Found-all w k operation Valid Member choices (Some b) found = (
+    found named.number named.below (subst (IsSound (asked w m operation choices)) (sym named.gives) sound)
+Found-all w m operation choices (Some b) found = (
   found.below,
   record {
     derivable = tuple_at-Picks choices b found.below;
     sound = found.sound;
     unbettered = λ terms picks sound better.
-        let q = asked w k operation Valid Member choices in
+        let q = asked w m operation choices in
         let named = Picks-number choices terms picks in
         found.unbettered named.number named.below (subst (IsSound q) (sym named.gives) sound) (subst (λ t. Betters q t (tuple_at choices b)) (sym named.gives) better);
   },

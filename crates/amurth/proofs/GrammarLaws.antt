@@ -9,7 +9,7 @@ use Rattle.std.proofs.lemmas.List.Folds.{list_any_none}
 use Rattle.std.proofs.lemmas.Map.Made.{AllPairs-from_IsDistinct, IsDistinct-from_AllPairs, is_member-Decides, length-le_from_is_member}
 use Rattle.std.proofs.lemmas.Slice.Eq.{bytes_eq-Decides}
 use Rattle.am_bv.specs.declared.term.Term.{Term}
-use Rattle.am_bv.proofs.Induction.{by_induction}
+use Rattle.am_bv.proofs.Laws.{by_induction}
 use Rattle.am_bv.proofs.Laws.{fits-Const}
 use Rattle.amurth.specs.declared.terms.Scope.{Scope}
 use Rattle.amurth.specs.Built.{IsBuiltRule, IsBuiltTerm, most_productions}

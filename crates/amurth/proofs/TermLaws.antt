@@ -11,7 +11,7 @@ use Rattle.am_bv.specs.declared.op.Op.{Op}
 use Rattle.am_bv.specs.declared.term.Term.{Term}
 use Rattle.am_bv.specs.declared.term.Term.TheOpen.{Const as Const-F, Field as Field-F, Node as Node-F}
 use Rattle.am_bv.specs.declared.term.Term.TheVariants.{Const, Field, Node, outs-Const, outs-Field, outs-Node}
-use Rattle.am_bv.proofs.Induction.{by_induction}
+use Rattle.am_bv.proofs.Laws.{by_induction}
 use Rattle.am_bv.proofs.Laws.{fits-Const, fits-Field, fits-Node, fold_at, nodes-Const, nodes-Field, nodes-Node}
 use Rattle.amurth.specs.declared.terms.Scope.{Scope}
 use Rattle.amurth.specs.Built.{IsBuiltTerm, most_nodes}

@@ -6,7 +6,7 @@ use Rattle.am_bv.specs.declared.term.Term.TheOpen.{Term-F, Const, Field, Node}
 use Rattle.am_domain.specs.Question.{Question, IsBest, IsAbsent}
 use Rattle.amurth.specs.Asked.{asked}
 use Rattle.amurth.specs.Choices.{tuple_at}
-use Rattle.amurth.specs.Domains.{member_of, valid_of}
+use Rattle.amurth.specs.Domains.{meaning_of}
 use Rattle.amurth.specs.Names.{op_name}
 use Rattle.amurth.specs.Problem.{Problem, fields_of, productions_of}
 use Rattle.amurth.specs.Spelling.{field_letter}
@@ -14,7 +14,7 @@ use Rattle.amurth.specs.Spelling.{field_letter}
 -- what a problem asks: values of its domain that cover the operation, by one production for each field
 abbrev pub question_of : Problem → Question
 question_of p =
-    asked p.width (fields_of p.kind) p.operation (valid_of p.kind p.width) (member_of p.kind p.width) (map (productions_of p.rules) p.starts)
+    asked p.width (meaning_of p.kind) p.operation (map (productions_of p.rules) p.starts)
 
 abbrev pub term_text_step : Term-F (List ℕ) → List ℕ
 term_text_step (Const c) = decimal c

@@ -1,19 +1,19 @@
 -- The question that an enumeration answers.
-use Rattle.std.specs.Prelude.{◌≡◌, ℕ, ◌≤◌, ◌<◌, ◌^◌, List, [], ◌∷◌, length, All, IsTrue}
+use Rattle.std.specs.Prelude.{◌≡◌, ℕ, ◌≤◌, ◌<◌, ◌^◌, List, [], ◌∷◌, length, All, IsTrue, ⊤}
 use Rattle.am_bv.specs.Terms.{val, fits}
 use Rattle.am_bv.specs.declared.term.Term.{Term}
+use Rattle.am_domain.specs.Meaning.{Meaning}
 use Rattle.am_domain.specs.Question.{Question}
 use Rattle.amurth.specs.Choices.{Picks}
 
--- an operation with one input, a domain with so many fields, and the terms to choose from for each field
-abbrev pub asked : ℕ → ℕ → Term → (List ℕ → Type 0) → (List ℕ → ℕ → Type 0) → List (List Term) → Question
-asked width fields operation Valid Member choices = record {
+-- an operation with one input that is used at all words, a domain, and the terms to choose from for each field
+abbrev pub asked : ℕ → Meaning → Term → List (List Term) → Question
+asked width domain operation choices = record {
   width = width;
   inputs = 1;
-  fields = fields;
+  domain = domain;
   operation = val width operation;
-  Valid = Valid;
-  Member = Member;
+  Assumed = λ words. ⊤;
   Derivable = Picks choices;
 }
 

@@ -4,7 +4,7 @@ ghost use Rattle.std.specs.Prelude.{◌≡◌, ◌<◌, ◌∷◌, ◌++◌, IfO
 ghost use Rattle.std.specs.Option.{ForSome};
 ghost use Rattle.am_domain.specs.Question.{IsAbsent, IsBest};
 ghost use Rattle.amurth.specs.Asked.{IsAsked, asked};
-ghost use Rattle.amurth.specs.Domains.{member_of, valid_of};
+ghost use Rattle.amurth.specs.Domains.{meaning_of};
 ghost use Rattle.amurth.specs.Answer.{IsAnswerOf, term_line, term_text, text_of_best};
 ghost use Rattle.amurth.specs.Built.{IsBuilt};
 ghost use Rattle.amurth.specs.Choices.{tuple_at, tuple_count};
@@ -105,7 +105,7 @@ pub fn answer(alloc: Global, problem: &Problem<'_>) -> Result<Vec<u8>, AllocErro
 fn best_number(problem: &Problem<'_>, choices: &Choices<'_>) -> Option<u64>
     requires { let p = problem_of problem.now in IsAsked p.width (fields_of p.kind) p.operation choices.now }
     ensures { let p = problem_of problem.now in
-        let q = asked p.width (fields_of p.kind) p.operation (valid_of p.kind p.width) (member_of p.kind p.width) choices.now in
+        let q = asked p.width (meaning_of p.kind) p.operation choices.now in
         MatchOption result (IsAbsent q) (λ number. (number < tuple_count choices.now) × IsBest q (tuple_at choices.now number)) }
 {
     match problem.kind {
@@ -122,9 +122,9 @@ fn best_number_in<D: Domain>(
     problem: &Problem<'_>,
     choices: &Choices<'_>,
 ) -> Option<u64>
-    requires { IsAsked problem.now.width (D.fields domain.now) problem.now.operation choices.now }
+    requires { IsAsked problem.now.width (D.meaning domain.now).fields problem.now.operation choices.now }
     ensures { let w = problem.now.width in
-        let q = asked w (D.fields domain.now) problem.now.operation (D.valid domain.now w) (D.member domain.now w) choices.now in
+        let q = asked w (D.meaning domain.now) problem.now.operation choices.now in
         MatchOption result (IsAbsent q) (λ number. (number < tuple_count choices.now) × IsBest q (tuple_at choices.now number)) }
 {
     let enumeration = Enumeration {

@@ -1,6 +1,6 @@
 -- Words bit by bit.
-use Rattle.std.proofs.Common.{◌≡◌, ◌≢◌, ℕ, zero, suc, ◌-◌, ◌/◌, ◌%◌, ◌^◌, ◌<◌, ◌↔◌, ◌⊎◌, inl, inr, min, refl, sym, ap, ◌∙◌, arith, bit_and, bit_or, bit_xor, count_ones}
-use Rattle.std.proofs.Math.Nat.{mod-eq_of_lt, pow-suc}
+use Rattle.std.proofs.Common.{◌≡◌, ◌≢◌, ℕ, zero, suc, ◌-◌, ◌/◌, ◌%◌, ◌^◌, ◌<◌, ◌≤◌, ◌↔◌, ◌⊎◌, inl, inr, min, refl, sym, ap, ◌∙◌, arith, bit_and, bit_or, bit_xor, count_ones}
+use Rattle.std.proofs.Math.Nat.{mod-eq_of_lt, pow-suc, pow-le-pow_right}
 use Rattle.std.proofs.lemmas.Bool.{cases_lt}
 use Rattle.std.proofs.lemmas.Nat.{pow_pos, and_mask, and_comm, and_or_self}
 use Rattle.std.proofs.lemmas.Nat.Bits.{bit_at-lt, bit_at-zero, bit_at_and, bit_at_xor, bit_at_ones, bit_at_above, same_from_bits}
@@ -113,3 +113,7 @@ pub more_ones : (a b : ℕ) → bit_or a b ≢ a → count_ones a < count_ones (
 more_ones a b apart =
     let e : bit_and (bit_or a b) a ≡ a = ap (λ n. bit_and n a) (or_comm a b) ∙ and_or_self a b in
     omega (arith, fewer_ones (bit_or a b) a (λ f. apart (sym f ∙ e)), ap count_ones e)
+
+-- there are at least four words of a width
+pub four_words : (w : ℕ) → 2 ≤ w → 4 ≤ 2 ^ w
+four_words w h = let two : 0 < 2 = omega arith in pow-le-pow_right two h

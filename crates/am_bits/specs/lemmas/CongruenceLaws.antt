@@ -4,24 +4,25 @@ use Rattle.std.proofs.lemmas.Bool.{lt-ltb}
 use Rattle.std.proofs.lemmas.Nat.{pow_pos, and_mask, and_le_l, and_le_r, xor_lt, ones-le}
 use Rattle.std.proofs.lemmas.Nat.Bits.{bit_at-lt, bit_at-zero, bit_at_and, bit_at_xor, same_from_bits}
 use Rattle.std.specs.Int.{bit_at}
-use Rattle.am_bv.proofs.Laws.{fits-Node, fits-Const, fits-Field, nodes-Node, nodes-Const, nodes-Field, val-Const, val-Field}
-use Rattle.am_bv.proofs.Words.{one_is_word}
+use Rattle.am_bv.proofs.Laws.{one_is_word, fits-Node, fits-Const, fits-Field, nodes-Node, nodes-Const, nodes-Field, val-Const, val-Field}
 use Rattle.am_bv.specs.Terms.{val}
 use Rattle.am_bv.specs.Words.{complement}
 use Rattle.am_domain.specs.Tuple.{IsTuple}
-use Rattle.am_domain.specs.Laws.{IsAbstract, HasMembers, HasTop, HoldsWords, JoinsAbove, Descends, Tidies, TellsValidity, TellsMembership}
+use Rattle.am_domain.specs.Meaning.{IsAbstract}
+use Rattle.am_domain.specs.Laws.{HasMembers, HasTop, HoldsWords, JoinsAbove, Descends, Tidies, TellsValidity, TellsMembership}
 use Rattle.am_bits.specs.lemmas.Bits.{bit_cases, set_bits, same_bits, bit_at-without, below_power, fewer_ones}
 use Rattle.am_bits.specs.lemmas.Masks.{mask_by_next, kept_by_mask, within_mask, low-within, low-mask}
-use Rattle.am_bits.specs.lemmas.Tuples.{pair_tuple, by_two, by_three}
-use Rattle.am_bits.specs.lemmas.Terms.{val-unary, val-binary, equality-tells, equalities-tell, iff-trans}
-use Rattle.am_bits.specs.Congruences.{mask, residue, IsMask, IsCongruence, IsCongruent, low, agreed, modulo, congruence_top, congruence_of_word, congruence_join, congruence_tidy, congruence_rank, congruence_valid_term, congruence_member_term}
+use Rattle.am_domain.proofs.Laws.{pair-IsTuple, by_two, by_three}
+use Rattle.am_bv.proofs.Laws.{val-unary, val-binary}
+use Rattle.am_bits.specs.lemmas.Terms.{equality-tells, equalities-tell, iff-trans}
+use Rattle.am_bits.specs.Congruences.{congruences, mask, residue, IsMask, IsCongruence, IsCongruent, low, agreed, modulo, congruence_top, congruence_of_word, congruence_join, congruence_tidy, congruence_rank, congruence_valid_term, congruence_member_term}
 
 -- a mask and a residue that is at most the mask are a value
-value : (w m r : ℕ) → m < 2 ^ w → IsMask w m → r ≤ m → IsAbstract w 2 IsCongruence (m ∷ r ∷ [])
-value w m r h masked within = record { tuple = pair_tuple w m r h (omega arith); valid = record { masked = masked; within = within } }
+value : (w m r : ℕ) → m < 2 ^ w → IsMask w m → r ≤ m → IsAbstract congruences w (m ∷ r ∷ [])
+value w m r h masked within = record { tuple = pair-IsTuple w m r h (omega arith); valid = record { masked = masked; within = within } }
 
 -- a residue modulo the low ones of a word
-low_value : (w x r : ℕ) → x < 2 ^ w → IsAbstract w 2 IsCongruence (modulo (low x) r)
+low_value : (w x r : ℕ) → x < 2 ^ w → IsAbstract congruences w (modulo (low x) r)
 low_value w x r h = value w (low x) (bit_and r (low x)) (omega (arith, low-within x, and_le_l x (low x), h)) (low-mask x w h) (and_le_r r (low x))
 
 -- the low ones of a word are bits of it
@@ -32,22 +33,22 @@ low_bit x = (set_bits x (low x)).0 (low-within x)
 residue_bit : (m r i : ℕ) → bit_at m i ≡ 1 → bit_at r i ≡ bit_at (bit_and r m) i
 residue_bit m r i h = omega (arith, bit_at_and r m i, bit_at-lt r i)
 
-pub has_members : HasMembers 2 IsCongruence (λ w. IsCongruent) (λ w. residue)
+pub has_members : HasMembers congruences (λ w. residue)
 has_members w width a abstract = (abstract.tuple.words 1, λ i h. refl)
 
-pub has_top : HasTop 2 IsCongruence (λ w. IsCongruent) (λ w. congruence_top)
+pub has_top : HasTop congruences (λ w. congruence_top)
 has_top w width = (
   value w 0 0 (pow_pos w) (0, omega arith, omega arith) (omega arith),
   λ c below i h. absurd (omega (arith, h, bit_at-zero i)),
 )
 
-pub holds_words : HoldsWords 2 IsCongruence (λ w. IsCongruent) congruence_of_word
+pub holds_words : HoldsWords congruences congruence_of_word
 holds_words w width c below = (
   value w (2 ^ w - 1) c (omega (arith, pow_pos w)) (w, omega arith, omega (arith, pow_pos w)) (omega arith),
   λ i h. refl,
 )
 
-module _ (w : ℕ) (a b : List ℕ) (first : IsAbstract w 2 IsCongruence a) (second : IsAbstract w 2 IsCongruence b) where
+module _ (w : ℕ) (a b : List ℕ) (first : IsAbstract congruences w a) (second : IsAbstract congruences w b) where
   -- the bits that agree are a word
   agreed-word : agreed w a b < 2 ^ w
   agreed-word =
@@ -87,7 +88,7 @@ module _ (w : ℕ) (a b : List ℕ) (first : IsAbstract w 2 IsCongruence a) (sec
       let part : bit_and (mask a) (low (agreed w a b)) ≡ low (agreed w a b) = (set_bits (mask a) (low (agreed w a b))).1 (λ i h. (agrees i h).in_first) in
       omega (arith, fewer_ones (mask a) (low (agreed w a b)) (λ e. changed (unchanged (sym part ∙ e))), ap count_ones part)
 
-pub joins_above : JoinsAbove 2 IsCongruence (λ w. IsCongruent) congruence_join
+pub joins_above : JoinsAbove congruences congruence_join
 joins_above w width a b first second =
     let m = low (agreed w a b) in
     record {
@@ -96,13 +97,13 @@ joins_above w width a b first second =
       second = λ c below h i k. let e = agrees w a b first second i k in h i e.in_second ∙ sym e.same ∙ residue_bit m (residue a) i k;
     }
 
-pub descends : Descends 2 IsCongruence congruence_join (λ w. congruence_rank)
+pub descends : Descends congruences congruence_join (λ w. congruence_rank)
 descends = record {
   most = λ w width a abstract. omega (arith, ones-le w (mask a) (abstract.tuple.words 0), below_power w);
   falls = λ w width a b first second changed. fewer_known w a b first second changed;
 }
 
-pub tidies : Tidies 2 IsCongruence (λ w. IsCongruent) (λ w. congruence_tidy)
+pub tidies : Tidies congruences (λ w. congruence_tidy)
 tidies w width raw tuple = (
   low_value w (mask raw) (residue raw) (tuple.words 0),
   λ c below h i k. h i (low_bit (mask raw) i k) ∙ residue_bit (low (mask raw)) (residue raw) i k,
@@ -117,7 +118,7 @@ congruence_by_tests w m r h k =
       λ valid. (masks.1 valid.masked, (within_mask w r m valid.masked k h).1 valid.within),
     )
 
-pub tells_validity : TellsValidity 2 IsCongruence (λ w. congruence_valid_term)
+pub tells_validity : TellsValidity congruences (λ w. congruence_valid_term)
 tells_validity w width =
     let zero_word : nat_lt 0 (2 ^ w) ≡ true = lt-ltb 0 (2 ^ w) (pow_pos w) in
     let one_word : nat_lt 1 (2 ^ w) ≡ true = lt-ltb 1 (2 ^ w) (one_is_word w width.0) in
@@ -133,7 +134,7 @@ tells_validity w width =
           env tuple.counted tuple;
     }
 
-pub tells_membership : TellsMembership 2 (λ w. IsCongruent) (λ w. congruence_member_term)
+pub tells_membership : TellsMembership congruences (λ w. congruence_member_term)
 tells_membership w width =
     let zero_word : nat_lt 0 (2 ^ w) ≡ true = lt-ltb 0 (2 ^ w) (pow_pos w) in
     record {

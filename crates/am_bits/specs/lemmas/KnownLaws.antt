@@ -10,15 +10,17 @@ use Rattle.am_bv.proofs.Laws.{fits-Node, fits-Const, fits-Field, nodes-Node, nod
 use Rattle.am_bv.specs.Terms.{val}
 use Rattle.am_bv.specs.Words.{complement}
 use Rattle.am_domain.specs.Tuple.{IsTuple}
-use Rattle.am_domain.specs.Laws.{IsAbstract, HasMembers, HasTop, HoldsWords, JoinsAbove, Descends, Tidies, TellsValidity, TellsMembership}
+use Rattle.am_domain.specs.Meaning.{IsAbstract}
+use Rattle.am_domain.specs.Laws.{HasMembers, HasTop, HoldsWords, JoinsAbove, Descends, Tidies, TellsValidity, TellsMembership}
 use Rattle.am_bits.specs.lemmas.Bits.{bit_cases, disjoint_bits, clear_bits, set_bits, bit_at-complement, below_power, kept_or_fewer}
-use Rattle.am_bits.specs.lemmas.Tuples.{pair_tuple, by_two, by_three}
-use Rattle.am_bits.specs.lemmas.Terms.{val-binary, equality-tells, equalities-tell, iff-trans}
-use Rattle.am_bits.specs.KnownBits.{zeros, ones, IsKnown, HasKnown, known_top, known_of_word, known_join, known_tidy, known_rank, known_valid_term, known_member_term}
+use Rattle.am_domain.proofs.Laws.{pair-IsTuple, by_two, by_three}
+use Rattle.am_bv.proofs.Laws.{val-binary}
+use Rattle.am_bits.specs.lemmas.Terms.{equality-tells, equalities-tell, iff-trans}
+use Rattle.am_bits.specs.KnownBits.{known_bits, zeros, ones, IsKnown, HasKnown, known_top, known_of_word, known_join, known_tidy, known_rank, known_valid_term, known_member_term}
 
 -- two words without a common bit are a value
-value : (w z o : ℕ) → z < 2 ^ w → o < 2 ^ w → IsKnown (z ∷ o ∷ []) → IsAbstract w 2 (λ w. IsKnown) (z ∷ o ∷ [])
-value w z o h k known = record { tuple = pair_tuple w z o h k; valid = known }
+value : (w z o : ℕ) → z < 2 ^ w → o < 2 ^ w → IsKnown (z ∷ o ∷ []) → IsAbstract known_bits w (z ∷ o ∷ [])
+value w z o h k known = record { tuple = pair-IsTuple w z o h k; valid = known }
 
 -- the two tests of membership
 pub known_by_tests : (a : List ℕ) (c : ℕ) → ((bit_and c (zeros a) ≡ 0) × (bit_and c (ones a) ≡ ones a)) ↔ HasKnown a c
@@ -27,7 +29,7 @@ known_by_tests a c = (
   λ h. ((clear_bits c (zeros a)).1 h.clear, (set_bits c (ones a)).1 h.set),
 )
 
-pub has_members : HasMembers 2 (λ w. IsKnown) (λ w. HasKnown) (λ w. ones)
+pub has_members : HasMembers known_bits (λ w. ones)
 has_members w width a abstract = (
   abstract.tuple.words 1,
   record {
@@ -36,7 +38,7 @@ has_members w width a abstract = (
   },
 )
 
-pub has_top : HasTop 2 (λ w. IsKnown) (λ w. HasKnown) (λ w. known_top)
+pub has_top : HasTop known_bits (λ w. known_top)
 has_top w width = (
   value w 0 0 (pow_pos w) (pow_pos w) (λ i both. omega (arith, both.0, bit_at-zero i)),
   λ c below. record { clear = λ i h. absurd (omega (arith, h, bit_at-zero i)); set = λ i h. absurd (omega (arith, h, bit_at-zero i)) },
@@ -50,13 +52,13 @@ apart w c i h z =
       | inr above ↦ bit_at_above c w i h above
     ]
 
-pub holds_words : HoldsWords 2 (λ w. IsKnown) (λ w. HasKnown) known_of_word
+pub holds_words : HoldsWords known_bits known_of_word
 holds_words w width c below = (
   value w (complement w c) c (omega (arith, pow_pos w)) below (λ i both. omega (arith, apart w c i below both.0, both.1)),
   record { clear = λ i z. apart w c i below z; set = λ i o. o },
 )
 
-pub joins_above : JoinsAbove 2 (λ w. IsKnown) (λ w. HasKnown) (λ w. known_join)
+pub joins_above : JoinsAbove known_bits (λ w. known_join)
 joins_above w width a b first second =
     let z : (i : ℕ) → bit_at (bit_and (zeros a) (zeros b)) i ≡ 1 → (bit_at (zeros a) i ≡ 1) × (bit_at (zeros b) i ≡ 1) = λ i. in_both (zeros a) (zeros b) i in
     let o : (i : ℕ) → bit_at (bit_and (ones a) (ones b)) i ≡ 1 → (bit_at (ones a) i ≡ 1) × (bit_at (ones b) i ≡ 1) = λ i. in_both (ones a) (ones b) i in
@@ -70,7 +72,7 @@ joins_above w width a b first second =
     in_both : (m n i : ℕ) → bit_at (bit_and m n) i ≡ 1 → (bit_at m i ≡ 1) × (bit_at n i ≡ 1)
     in_both m n i h = (omega (arith, h, bit_at_and m n i, bit_at-lt m i), omega (arith, h, bit_at_and m n i, bit_at-lt n i))
 
-pub descends : Descends 2 (λ w. IsKnown) (λ w. known_join) (λ w. known_rank)
+pub descends : Descends known_bits (λ w. known_join) (λ w. known_rank)
 descends = record {
   most = λ w width a abstract. omega (arith, ones-le w (zeros a) (abstract.tuple.words 0), ones-le w (ones a) (abstract.tuple.words 1), below_power w);
   falls = λ w width a b first second changed.
@@ -90,15 +92,15 @@ descends = record {
 -- what is left of a tuple, by whether its words have no common bit
 tidied : (w : ℕ) (raw : List ℕ) → IsTuple w 2 raw → (t : Bool) → (bit_and (zeros raw) (ones raw) == 0) ≡ t →
     MatchOption (cond t (Some raw) None) ((c : ℕ) → c < 2 ^ w → ¬ HasKnown raw c)
-    (λ a. IsAbstract w 2 (λ w. IsKnown) a × ((c : ℕ) → c < 2 ^ w → HasKnown raw c → HasKnown a c))
+    (λ a. IsAbstract known_bits w a × ((c : ℕ) → c < 2 ^ w → HasKnown raw c → HasKnown a c))
 tidied w raw tuple true e = (record { tuple = tuple; valid = (disjoint_bits (zeros raw) (ones raw)).0 (eqb-true _ _ e) }, λ c below h. h)
 tidied w raw tuple false e = λ c below h.
     eqb-false _ _ e ((disjoint_bits (zeros raw) (ones raw)).1 (λ i both. omega (arith, h.clear i both.0, h.set i both.1)))
 
-pub tidies : Tidies 2 (λ w. IsKnown) (λ w. HasKnown) (λ w. known_tidy)
+pub tidies : Tidies known_bits (λ w. known_tidy)
 tidies w width raw tuple = tidied w raw tuple (bit_and (zeros raw) (ones raw) == 0) refl
 
-pub tells_validity : TellsValidity 2 (λ w. IsKnown) (λ w. known_valid_term)
+pub tells_validity : TellsValidity known_bits (λ w. known_valid_term)
 tells_validity w width =
     let zero_word : nat_lt 0 (2 ^ w) ≡ true = lt-ltb 0 (2 ^ w) (pow_pos w) in
     record {
@@ -109,7 +111,7 @@ tells_validity w width =
           env tuple.counted;
     }
 
-pub tells_membership : TellsMembership 2 (λ w. HasKnown) (λ w. known_member_term)
+pub tells_membership : TellsMembership known_bits (λ w. known_member_term)
 tells_membership w width =
     let zero_word : nat_lt 0 (2 ^ w) ≡ true = lt-ltb 0 (2 ^ w) (pow_pos w) in
     record {

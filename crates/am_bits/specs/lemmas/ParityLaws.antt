@@ -7,15 +7,17 @@ use Rattle.std.proofs.lemmas.Nat.Bits.{shr_and_one, bit_at-lt, bit_at_and, bit_a
 use Rattle.std.specs.Int.{bit_at}
 use Rattle.std.specs.Int.Bits.{or_add_and}
 use Rattle.std.specs.Option.{MatchOption}
-use Rattle.am_bv.proofs.Words.{one_is_word}
-use Rattle.am_bv.proofs.Laws.{fits-Node, fits-Const, fits-Field, nodes-Node, nodes-Const, nodes-Field, val-Const, val-Field}
+use Rattle.am_bv.proofs.Laws.{one_is_word, fits-Node, fits-Const, fits-Field, nodes-Node, nodes-Const, nodes-Field, val-Const, val-Field}
 use Rattle.am_bv.specs.Terms.{val}
 use Rattle.am_bv.specs.Operators.{lshr_of}
-use Rattle.am_domain.specs.Laws.{IsAbstract, HasMembers, HasTop, HoldsWords, JoinsAbove, Descends, Tidies, TellsValidity, TellsMembership}
+use Rattle.am_domain.specs.Meaning.{IsAbstract}
+use Rattle.am_domain.specs.Laws.{HasMembers, HasTop, HoldsWords, JoinsAbove, Descends, Tidies, TellsValidity, TellsMembership}
 use Rattle.am_bits.specs.lemmas.Bits.{bit_cases, bits_of_zero, more_ones}
-use Rattle.am_bits.specs.lemmas.Tuples.{four_words, single_tuple, by_one, by_two}
-use Rattle.am_bits.specs.lemmas.Terms.{val-binary, orders-tell}
-use Rattle.am_bits.specs.Parities.{IsParity, HasParity, parity_top, parity_of_word, parity_some_member, parity_join, parity_tidy, parity_rank, parity_valid_term, parity_member_term}
+use Rattle.am_bits.specs.lemmas.Bits.{four_words}
+use Rattle.am_domain.proofs.Laws.{single-IsTuple, by_one, by_two}
+use Rattle.am_bv.proofs.Laws.{val-binary}
+use Rattle.am_bits.specs.lemmas.Terms.{orders-tell}
+use Rattle.am_bits.specs.Parities.{parities, IsParity, HasParity, parity_top, parity_of_word, parity_some_member, parity_join, parity_tidy, parity_rank, parity_valid_term, parity_member_term}
 
 -- a fact at each parity
 by_parity : (P : ℕ → Type 0) → P 1 → P 2 → P 3 → (p : ℕ) → 1 ≤ p → p ≤ 3 → P p
@@ -26,28 +28,28 @@ by_parity P one two three (suc (suc (suc zero))) least most = three
 by_parity P one two three (suc (suc (suc (suc p)))) least most = absurd (omega arith)
 
 -- a number from 1 to 3 is a value
-value : (w p : ℕ) → 2 ≤ w → 1 ≤ p → p ≤ 3 → IsAbstract w 1 (λ w. IsParity) (p ∷ [])
-value w p width least most = record { tuple = single_tuple w p (omega (arith, four_words w width)); valid = (least, most) }
+value : (w p : ℕ) → 2 ≤ w → 1 ≤ p → p ≤ 3 → IsAbstract parities w (p ∷ [])
+value w p width least most = record { tuple = single-IsTuple w p (omega (arith, four_words w width)); valid = (least, most) }
 
-pub has_members : HasMembers 1 (λ w. IsParity) (λ w. HasParity) (λ w. parity_some_member)
+pub has_members : HasMembers parities (λ w. parity_some_member)
 has_members w width a abstract =
     let zero_word = pow_pos w in
     by_parity (λ p. let c : ℕ = cond (bit_at p 0 == 1) 0 1 in (c < 2 ^ w) × (bit_at p (c % 2) ≡ 1))
     (zero_word, refl) (one_is_word w width.0, refl) (zero_word, refl) (slice_index a 0) abstract.valid.0 abstract.valid.1
 
 -- the value of a word by its lowest bit
-of_bit : (w d : ℕ) → 2 ≤ w → d < 2 → let p : ℕ = cond (d == 0) 1 2 in IsAbstract w 1 (λ w. IsParity) (p ∷ []) × (bit_at p d ≡ 1)
+of_bit : (w d : ℕ) → 2 ≤ w → d < 2 → let p : ℕ = cond (d == 0) 1 2 in IsAbstract parities w (p ∷ []) × (bit_at p d ≡ 1)
 of_bit w zero width h = (value w 1 width (lit≤ tt) (lit≤ tt), refl)
 of_bit w (suc zero) width h = (value w 2 width (lit≤ tt) (lit≤ tt), refl)
 of_bit w (suc (suc d)) width h = absurd (omega arith)
 
-pub has_top : HasTop 1 (λ w. IsParity) (λ w. HasParity) (λ w. parity_top)
+pub has_top : HasTop parities (λ w. parity_top)
 has_top w width = (value w 3 width.0 (lit≤ tt) (lit≤ tt), λ c below. bit_at_ones 2 (c % 2) (omega arith))
 
-pub holds_words : HoldsWords 1 (λ w. IsParity) (λ w. HasParity) (λ w. parity_of_word)
+pub holds_words : HoldsWords parities (λ w. parity_of_word)
 holds_words w width c below = of_bit w (c % 2) width.0 (omega arith)
 
-pub joins_above : JoinsAbove 1 (λ w. IsParity) (λ w. HasParity) (λ w. parity_join)
+pub joins_above : JoinsAbove parities (λ w. parity_join)
 joins_above w width a b first second =
     let p = slice_index a 0 in
     let q = slice_index b 0 in
@@ -59,7 +61,7 @@ joins_above w width a b first second =
       second = λ c below h. omega (arith, h, bit_at_or p q (c % 2), bit_at-lt p (c % 2));
     }
 
-pub descends : Descends 1 (λ w. IsParity) (λ w. parity_join) (λ w. parity_rank)
+pub descends : Descends parities (λ w. parity_join) (λ w. parity_rank)
 descends = record {
   most = λ w width a abstract. omega (arith, four_words w width.0);
   falls = λ w width a b first second apart.
@@ -73,7 +75,7 @@ descends = record {
 -- what is left of a tuple, by whether it has no bit that is read
 tidied : (w r : ℕ) → 2 ≤ w → r < 2 ^ w → (t : Bool) → (bit_and r 3 == 0) ≡ t →
     MatchOption (cond t None (Some (bit_and r 3 ∷ []))) ((c : ℕ) → c < 2 ^ w → ¬ (bit_at r (c % 2) ≡ 1))
-    (λ a. IsAbstract w 1 (λ w. IsParity) a × ((c : ℕ) → c < 2 ^ w → bit_at r (c % 2) ≡ 1 → HasParity a c))
+    (λ a. IsAbstract parities w a × ((c : ℕ) → c < 2 ^ w → bit_at r (c % 2) ≡ 1 → HasParity a c))
 tidied w r width h true e = λ c below member.
     omega (arith, member, bit_at_and r 3 (c % 2), bit_at_ones 2 (c % 2) (omega arith), bits_of_zero (bit_and r 3) (c % 2) (eqb-true _ _ e))
 tidied w r width h false e = (
@@ -81,10 +83,10 @@ tidied w r width h false e = (
   λ c below member. omega (arith, member, bit_at_and r 3 (c % 2), bit_at_ones 2 (c % 2) (omega arith)),
 )
 
-pub tidies : Tidies 1 (λ w. IsParity) (λ w. HasParity) (λ w. parity_tidy)
+pub tidies : Tidies parities (λ w. parity_tidy)
 tidies w width raw tuple = tidied w (slice_index raw 0) width.0 (tuple.words 0) (bit_and (slice_index raw 0) 3 == 0) refl
 
-pub tells_validity : TellsValidity 1 (λ w. IsParity) (λ w. parity_valid_term)
+pub tells_validity : TellsValidity parities (λ w. parity_valid_term)
 tells_validity w width =
     let one : nat_lt 1 (2 ^ w) ≡ true = lt-ltb 1 (2 ^ w) (omega (arith, four_words w width.0)) in
     let three : nat_lt 3 (2 ^ w) ≡ true = lt-ltb 3 (2 ^ w) (omega (arith, four_words w width.0)) in
@@ -102,7 +104,7 @@ bit_read w p c width =
     let within : nat_lt (c % 2) w ≡ true = lt-ltb (c % 2) w (omega arith) in
     ap (λ k. bit_and (lshr_of w p k) 1) (and_mask c 1) ∙ ap (λ t. bit_and (cond t (p / 2 ^ (c % 2)) 0) 1) within ∙ shr_and_one p (c % 2)
 
-pub tells_membership : TellsMembership 1 (λ w. HasParity) (λ w. parity_member_term)
+pub tells_membership : TellsMembership parities (λ w. parity_member_term)
 tells_membership w width =
     let one : nat_lt 1 (2 ^ w) ≡ true = lt-ltb 1 (2 ^ w) (omega (arith, four_words w width.0)) in
     record {

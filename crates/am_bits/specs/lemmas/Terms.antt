@@ -1,21 +1,8 @@
--- The values of terms of one operator, and which comparisons hold where the word that they give isn't 0.
+-- Which comparisons hold where the word that they give isn't 0.
 use Rattle.std.proofs.Common.{◌≡◌, ◌≢◌, ℕ, ◌≤◌, List, [], ◌∷◌, ◌↔◌, IsTrue, nat_le, ◌==◌, bit_and, arith}
 use Rattle.std.proofs.lemmas.Bool.{eqb-true, eq-eqb}
 use Rattle.std.proofs.lemmas.Bool.Decides.{nat_tests}
-use Rattle.am_bv.specs.declared.op.Op.{Op}
-use Rattle.am_bv.specs.declared.term.Term.{Term}
-use Rattle.am_bv.specs.Operators.{apply_at}
 use Rattle.am_bv.specs.Words.{one_if}
-use Rattle.am_bv.specs.Terms.{val}
-use Rattle.am_bv.proofs.Laws.{val-Node}
-use Rattle.am_bits.specs.Nodes.{unary, binary}
-
-pub val-unary : (w : ℕ) (op : Op) (t : Term) (env : List ℕ) → val w (unary op t) env ≡ apply_at w op (val w t env) 0 0
-val-unary w op t env = val-Node w op (t ∷ []) env
-
-pub val-binary : (w : ℕ) (op : Op) (s t : Term) (env : List ℕ) →
-    val w (binary op s t) env ≡ apply_at w op (val w s env) (val w t env) 0
-val-binary w op s t env = val-Node w op (s ∷ t ∷ []) env
 
 pub equals : (x y : ℕ) → IsTrue (x == y) ↔ (x ≡ y)
 equals x y = (eqb-true x y, eq-eqb x y)

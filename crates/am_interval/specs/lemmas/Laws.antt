@@ -1,9 +1,12 @@
 -- The laws of the domain of intervals, for each reading of words as whole numbers.
 use Rattle.std.proofs.Common.{◌≡◌, ◌≢◌, ℕ, ◌-◌, ◌^◌, ◌<◌, inl, inr, true, false, refl, arith, ℤ, ◌≤ℤ◌, int_le, List, [], ◌∷◌, length, Bool, Some, None, if◌then◌else◌, MatchOption}
 use Rattle.std.proofs.lemmas.Int.{ints}
-use Rattle.am_domain.specs.Laws.{IsWidth, IsAbstract, HasMembers, HasTop, HoldsWords, JoinsAbove, Descends, Tidies}
-use Rattle.am_interval.specs.Intervals.{Reading, least, greatest, IsInterval, IsBetween, point, hull, words_outside, tidied}
-use Rattle.am_interval.specs.lemmas.Numbers.{IsTop, two_words, fewer_outside, lesser-IsLesser, greater-IsGreater}
+use Rattle.am_bv.specs.Words.{IsWidth}
+use Rattle.am_domain.specs.Meaning.{IsAbstract}
+use Rattle.am_domain.specs.Laws.{HasMembers, HasTop, HoldsWords, JoinsAbove, Descends, Tidies}
+use Rattle.am_domain.proofs.Laws.{pair-IsTuple}
+use Rattle.am_interval.specs.Intervals.{Reading, least, greatest, IsBetween, intervals, point, hull, words_outside, tidied}
+use Rattle.am_interval.specs.lemmas.Numbers.{IsTop, fewer_outside, lesser-IsLesser, greater-IsGreater}
 
 -- a tuple of two words is the list of its ends
 pair-ends : (a : List ℕ) → length a ≡ 2 → least a ∷ greatest a ∷ [] ≡ a
@@ -16,42 +19,42 @@ le-refl : (x : ℤ) → x ≤ℤ x
 le-refl x = omega (arith, ints)
 
 module _ (number : Reading) where
-  pub has_members : HasMembers 2 (IsInterval number) (IsBetween number) (λ w. least)
+  pub has_members : HasMembers (intervals number) (λ w. least)
   has_members w width a h = (h.tuple.words 0, (le-refl _, h.valid))
 
-  pub holds_words : HoldsWords 2 (IsInterval number) (IsBetween number) (λ w. point)
-  holds_words w width c h = (record { tuple = two_words w c c h h; valid = le-refl _ }, (le-refl _, le-refl _))
+  pub holds_words : HoldsWords (intervals number) (λ w. point)
+  holds_words w width c h = (record { tuple = pair-IsTuple w c c h h; valid = le-refl _ }, (le-refl _, le-refl _))
 
-  pub joins_above : JoinsAbove 2 (IsInterval number) (IsBetween number) (hull number)
+  pub joins_above : JoinsAbove (intervals number) (hull number)
   joins_above w width a b ha hb =
       let low = lesser-IsLesser number w (least a) (least b) in
       let high = greater-IsGreater number w (greatest a) (greatest b) in
       record {
         value = record {
-          tuple = two_words w _ _ (low.word (ha.tuple.words 0) (hb.tuple.words 0)) (high.word (ha.tuple.words 1) (hb.tuple.words 1));
+          tuple = pair-IsTuple w _ _ (low.word (ha.tuple.words 0) (hb.tuple.words 0)) (high.word (ha.tuple.words 1) (hb.tuple.words 1));
           valid = omega (arith, ints, low.first, high.first, ha.valid);
         };
         first = λ c below between. (omega (arith, ints, low.first, between.0), omega (arith, ints, high.first, between.1));
         second = λ c below between. (omega (arith, ints, low.second, between.0), omega (arith, ints, high.second, between.1));
       }
 
-  pub tidies : Tidies 2 (IsInterval number) (IsBetween number) (tidied number)
+  pub tidies : Tidies (intervals number) (tidied number)
   tidies w width raw h = go (int_le (number w (least raw)) (number w (greatest raw))) refl
     where
       go : (b : Bool) → int_le (number w (least raw)) (number w (greatest raw)) ≡ b →
           MatchOption (if b then Some raw else None) ((c : ℕ) → c < 2 ^ w → ¬ IsBetween number w raw c)
-          (λ a. IsAbstract w 2 (IsInterval number) a × ((c : ℕ) → c < 2 ^ w → IsBetween number w raw c → IsBetween number w a c))
+          (λ a. IsAbstract (intervals number) w a × ((c : ℕ) → c < 2 ^ w → IsBetween number w raw c → IsBetween number w a c))
       go true e = (record { tuple = h; valid = grind (arith, ints, e) }, λ c below between. between)
       go false e = λ c below between. grind (arith, ints, e, between.0, between.1)
 
 module _ (number : Reading) (top : ℕ → List ℕ) (is_top : (w : ℕ) → IsWidth w → IsTop number w (top w)) where
-  pub has_top : HasTop 2 (IsInterval number) (IsBetween number) top
+  pub has_top : HasTop (intervals number) top
   has_top w width =
       let t = is_top w width in
       (record { tuple = t.tuple; valid = t.above _ (t.tuple.words 1) }, λ c below. (t.above c below, t.below c below))
 
   -- a hull that isn't the first interval leaves fewer words outside
-  falls : (w : ℕ) → IsWidth w → (a b : List ℕ) → IsAbstract w 2 (IsInterval number) a → IsAbstract w 2 (IsInterval number) b →
+  falls : (w : ℕ) → IsWidth w → (a b : List ℕ) → IsAbstract (intervals number) w a → IsAbstract (intervals number) w b →
       hull number w a b ≢ a → words_outside number w (hull number w a b) < words_outside number w a
   falls w width a b ha hb changed =
       let t = is_top w width in
@@ -65,5 +68,5 @@ module _ (number : Reading) (top : ℕ → List ℕ) (is_top : (w : ℕ) → IsW
         | inr h ↦ elim high.strict [ inl k ↦ fewer (inr k) | inr k ↦ absurd (changed (rw (h, k) (pair-ends a ha.tuple.counted))) ]
       ]
 
-  pub descends : Descends 2 (IsInterval number) (hull number) (words_outside number)
+  pub descends : Descends (intervals number) (hull number) (words_outside number)
   descends = record { most = λ w width a h. omega arith; falls = falls }

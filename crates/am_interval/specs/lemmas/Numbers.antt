@@ -7,11 +7,11 @@ use Rattle.std.proofs.lemmas.Bool.Decides.{nat_tests}
 use Rattle.std.specs.Int.{int_gap}
 use Rattle.am_bv.specs.Words.{signed}
 use Rattle.am_domain.specs.Tuple.{IsTuple}
-use Rattle.am_domain.proofs.Tuples.{AreWords-nil, AreWords-cons}
+use Rattle.am_domain.proofs.Laws.{pair-IsTuple}
 use Rattle.am_interval.specs.Intervals.{Reading, unsigned, unsigned_top, signed_top, least, greatest, lesser, greater}
 
-pub two_words : (w c d : ℕ) → c < 2 ^ w → d < 2 ^ w → IsTuple w 2 (c ∷ d ∷ [])
-two_words w c d h k = record { counted = refl; words = AreWords-cons w c (d ∷ []) h (AreWords-cons w d [] k (AreWords-nil w)) }
+-- two words are a tuple
+pub ruleset tuples = (pair-IsTuple)
 
 -- each word's number is between the numbers of the ends, which are 2 ^ w - 1 apart at most
 pub record IsTop (number : Reading) (w : ℕ) (a : List ℕ) : Type 0 where
@@ -24,7 +24,7 @@ pub unsigned_top-IsTop : (w : ℕ) → IsTop unsigned w (unsigned_top w)
 unsigned_top-IsTop w =
     let h = pow_pos w in
     record {
-      tuple = two_words w 0 (2 ^ w - 1) h (omega (arith, h));
+      tuple = pair-IsTuple w 0 (2 ^ w - 1) h (omega (arith, h));
       above = λ c below. omega (arith, ints);
       below = λ c below. omega (arith, ints, below);
       most = omega (arith, ints);
@@ -34,7 +34,7 @@ pub halved : (w : ℕ) → 2 ≤ w → 2 ^ w ≡ 2 ^ (w - 1) + 2 ^ (w - 1)
 halved w h = let e : w ≡ suc (w - 1) = omega arith in ap (λ k. 2 ^ k) e ∙ two-pow-succ (w - 1)
 
 -- the signed number of a word, by its top bit
-signed_cases : (w c : ℕ) → ((c < 2 ^ (w - 1)) × (signed w c ≡ pos c)) ⊎ ((2 ^ (w - 1) ≤ c) × (signed w c +ℤ pos (2 ^ w) ≡ pos c))
+pub signed_cases : (w c : ℕ) → ((c < 2 ^ (w - 1)) × (signed w c ≡ pos c)) ⊎ ((2 ^ (w - 1) ≤ c) × (signed w c +ℤ pos (2 ^ w) ≡ pos c))
 signed_cases w c = grind (arith, ints, nat_tests)
 
 pub signed_top-IsTop : (w : ℕ) → 2 ≤ w → IsTop signed w (signed_top w)
@@ -44,7 +44,7 @@ signed_top-IsTop w h =
     let bottom = signed_cases w (2 ^ (w - 1)) in
     let top = signed_cases w (2 ^ (w - 1) - 1) in
     record {
-      tuple = two_words w _ _ (omega (arith, half, whole)) (omega (arith, half, whole));
+      tuple = pair-IsTuple w _ _ (omega (arith, half, whole)) (omega (arith, half, whole));
       above = λ c below. grind (arith, ints, bottom, signed_cases w c, half, whole, below);
       below = λ c below. grind (arith, ints, top, signed_cases w c, half, whole, below);
       most = grind (arith, ints, bottom, top, half, whole);

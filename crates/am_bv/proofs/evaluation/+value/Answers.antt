@@ -1,7 +1,7 @@
 use Rattle.std.proofs.Common.{◌≡◌, get_or, lit<, length, IsTrue, ap, subst, arith, rules}
 use Rattle.std.proofs.lemmas.List.{take_all, length-map}
 use Rattle.am_bv.specs.Terms.{val, fits}
-use Rattle.am_bv.proofs.Laws.{val-Node, fits_arity, fits_child, arity_most}
+use Rattle.am_bv.proofs.ByKind.{val-Node, fits_arity, fits_child, arity_most}
 use Rattle.am_bv.specs.declared.term.Term.{the_lemmas}
 use Rattle.am_bv.proofs.evaluation.+value.Goals as goal
 

@@ -1,4 +1,4 @@
-use Rattle.am_bv.proofs.Laws.{nodes-Const, nodes-Field, nodes-Node}
+use Rattle.am_bv.proofs.ByKind.{nodes-Const, nodes-Field, nodes-Node}
 use Rattle.am_bv.proofs.theorems.nodes_by_kind.Goals as goal
 
 pub returns : goal.returns

@@ -1,4 +1,4 @@
-use Rattle.am_bv.proofs.Laws.{val-Const, val-Field, val-Node}
+use Rattle.am_bv.proofs.ByKind.{val-Const, val-Field, val-Node}
 use Rattle.am_bv.proofs.theorems.value_by_kind.Goals as goal
 
 pub returns : goal.returns

@@ -1,4 +1,4 @@
-use Rattle.am_bv.proofs.Laws.{weight-Const, weight-Field, weight-Node}
+use Rattle.am_bv.proofs.ByKind.{weight-Const, weight-Field, weight-Node}
 use Rattle.am_bv.proofs.theorems.weight_by_kind.Goals as goal
 
 pub returns : goal.returns

@@ -2,7 +2,7 @@ use Rattle.std.proofs.Common.{◌≡◌, ℕ, suc, ◌-◌, ◌<◌, ◌^◌, na
 use Rattle.std.proofs.lemmas.Bool.Decides.{leb_tells}
 use Rattle.std.proofs.lemmas.Nat.{pow_pos}
 use Rattle.std.proofs.lemmas.List.{take_all}
-use Rattle.am_bv.proofs.Laws.{fits-Node, fits-Const}
+use Rattle.am_bv.proofs.ByKind.{fits-Node, fits-Const}
 use Rattle.am_bv.proofs.term.Term.+fits.Goals as goal
 
 up_to_mask : (c p : ℕ) → 0 < p → nat_le c (p - 1) ≡ nat_lt c p

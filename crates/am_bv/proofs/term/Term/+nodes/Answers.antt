@@ -1,5 +1,5 @@
 use Rattle.std.proofs.lemmas.List.{take_all}
-use Rattle.am_bv.proofs.Laws.{nodes-Node}
+use Rattle.am_bv.proofs.ByKind.{nodes-Node}
 use Rattle.am_bv.proofs.term.Term.+nodes.Goals as goal
 
 pub returns-after-loop-t : goal.returns-after-loop-t

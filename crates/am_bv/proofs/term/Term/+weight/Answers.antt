@@ -2,7 +2,7 @@ use Rattle.std.proofs.Common.{◌≡◌, get_or, ap, ◌∙◌, arith, rules}
 use Rattle.std.proofs.lemmas.List.{take_all}
 use Rattle.am_bv.specs.declared.term.Term.{the_lemmas}
 use Rattle.am_bv.specs.Terms.{nodes}
-use Rattle.am_bv.proofs.Laws.{nodes-Node, nodes_up_to, weight-Node}
+use Rattle.am_bv.proofs.ByKind.{nodes-Node, nodes_up_to, weight-Node}
 use Rattle.am_bv.proofs.term.Term.+weight.Goals as goal
 
 pub weight-sum-requires-in-loop-t : goal.weight-sum-requires-in-loop-t

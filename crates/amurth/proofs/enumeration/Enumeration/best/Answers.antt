@@ -9,7 +9,7 @@ pub loop-number-preserved : goal.loop-number-preserved
 loop-number-preserved g c =
     let e = c.args.self.now in
     let d = e.domain.now in
-    let q = asked e.width (g.D.Domain.fields d) e.operation.now (g.D.Domain.valid d e.width) (g.D.Domain.member d e.width) e.choices.now in
+    let q = asked e.width (g.D.Domain.meaning d) e.operation.now e.choices.now in
     let terms = e.choices.now in
     let n = c.loop-number.number in
     let best = c.loop-number.best in
@@ -27,7 +27,7 @@ pub returns : goal.returns
 returns g c =
     let e = c.args.self.now in
     let d = e.domain.now in
-    let q = asked e.width (g.D.Domain.fields d) e.operation.now (g.D.Domain.valid d e.width) (g.D.Domain.member d e.width) e.choices.now in
+    let q = asked e.width (g.D.Domain.meaning d) e.operation.now e.choices.now in
     let all : c.loop-number.number ≡ tuple_count e.choices.now = omega (arith, c.loop-number-test.false, c.count-number-end.ensures) in
-    Found-all e.width (g.D.Domain.fields d) e.operation.now (g.D.Domain.valid d e.width) (g.D.Domain.member d e.width) e.choices.now c.loop-number.best
+    Found-all e.width (g.D.Domain.meaning d) e.operation.now e.choices.now c.loop-number.best
     (subst (λ n. Found q e.choices.now n c.loop-number.best) all c.loop-number.invariant)

@@ -6,4 +6,4 @@ abbrev pub invariant-loop-number : goal.invariant-loop-number
 invariant-loop-number g l =
     let e = l.self in
     let d = e.domain.now in
-    Found (asked e.width (g.D.Domain.fields d) e.operation.now (g.D.Domain.valid d e.width) (g.D.Domain.member d e.width) e.choices.now) e.choices.now l.number l.best
+    Found (asked e.width (g.D.Domain.meaning d) e.operation.now e.choices.now) e.choices.now l.number l.best

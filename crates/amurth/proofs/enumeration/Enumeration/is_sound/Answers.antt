@@ -7,11 +7,11 @@ pub returns-then-not-is_sound_at : goal.returns-then-not-is_sound_at
 returns-then-not-is_sound_at g c =
     let e = c.args.self.now in
     let found = c.if-not-is_sound_at.ensures in
-    unsound e.width (g.D.Domain.fields e.domain.now) e.operation.now (g.D.Domain.valid e.domain.now e.width) (g.D.Domain.member e.domain.now e.width) e.choices.now
+    unsound e.width (g.D.Domain.meaning e.domain.now) e.operation.now e.choices.now
     (tuple_at e.choices.now c.args.number) c.tuple_of_number-a.result (rw c.fields.ensures.value at c.tuple_of_number-a.ensures.tuple) found.0 found.1
 
 pub returns : goal.returns
 returns g c =
     let e = c.args.self.now in
-    IsSound-from_places e.width (g.D.Domain.fields e.domain.now) e.operation.now (g.D.Domain.valid e.domain.now e.width) (g.D.Domain.member e.domain.now e.width) e.choices.now
+    IsSound-from_places e.width (g.D.Domain.meaning e.domain.now) e.operation.now e.choices.now
     (tuple_at e.choices.now c.args.number) (λ n below. c.loop-place.invariant n (omega (arith, below, c.places-place-end.ensures, c.loop-place-test.false)))

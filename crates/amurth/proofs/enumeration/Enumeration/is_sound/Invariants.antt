@@ -10,5 +10,5 @@ invariant-loop-place g l =
     let e = l.self in
     let d = e.domain.now in
     let terms = tuple_at e.choices.now l.number in
-    (n : ℕ) → n < l.place → g.D.Domain.valid d e.width (words_at e.width (g.D.Domain.fields d) n) →
-    Covers e.width e.operation.now (g.D.Domain.member d e.width) (words_at e.width (g.D.Domain.fields d) n) (map (λ t. val e.width t (words_at e.width (g.D.Domain.fields d) n)) terms)
+    (n : ℕ) → n < l.place → (g.D.Domain.meaning d).Valid e.width (words_at e.width (g.D.Domain.meaning d).fields n) →
+    Covers e.width e.operation.now ((g.D.Domain.meaning d).Member e.width) (words_at e.width (g.D.Domain.meaning d).fields n) (map (λ t. val e.width t (words_at e.width (g.D.Domain.meaning d).fields n)) terms)

@@ -7,11 +7,11 @@ pub returns-then-not-is_within_at : goal.returns-then-not-is_within_at
 returns-then-not-is_within_at g c =
     let e = c.args.self.now in
     let found = c.if-not-is_within_at.ensures in
-    Exceeds-at e.width (g.D.Domain.fields e.domain.now) e.operation.now (g.D.Domain.valid e.domain.now e.width) (g.D.Domain.member e.domain.now e.width) e.choices.now
+    Exceeds-at e.width (g.D.Domain.meaning e.domain.now) e.operation.now e.choices.now
     (tuple_at e.choices.now c.args.inner) (tuple_at e.choices.now c.args.outer) c.tuple_of_number-a.result (rw c.fields.ensures.value at c.tuple_of_number-a.ensures.tuple) found.0 found.1
 
 pub returns : goal.returns
 returns g c =
     let e = c.args.self.now in
-    IsWithin-from_places e.width (g.D.Domain.fields e.domain.now) e.operation.now (g.D.Domain.valid e.domain.now e.width) (g.D.Domain.member e.domain.now e.width) e.choices.now
+    IsWithin-from_places e.width (g.D.Domain.meaning e.domain.now) e.operation.now e.choices.now
     (tuple_at e.choices.now c.args.inner) (tuple_at e.choices.now c.args.outer) (λ n below. c.loop-place.invariant n (omega (arith, below, c.places-place-end.ensures, c.loop-place-test.false)))

@@ -9,6 +9,6 @@ abbrev pub invariant-loop-place : goal.invariant-loop-place
 invariant-loop-place g l =
     let e = l.self in
     let d = e.domain.now in
-    (n : ℕ) → n < l.place → g.D.Domain.valid d e.width (words_at e.width (g.D.Domain.fields d) n) →
-    Includes e.width (g.D.Domain.member d e.width) (map (λ t. val e.width t (words_at e.width (g.D.Domain.fields d) n)) (tuple_at e.choices.now l.outer))
-    (map (λ t. val e.width t (words_at e.width (g.D.Domain.fields d) n)) (tuple_at e.choices.now l.inner))
+    (n : ℕ) → n < l.place → (g.D.Domain.meaning d).Valid e.width (words_at e.width (g.D.Domain.meaning d).fields n) →
+    Includes e.width ((g.D.Domain.meaning d).Member e.width) (map (λ t. val e.width t (words_at e.width (g.D.Domain.meaning d).fields n)) (tuple_at e.choices.now l.outer))
+    (map (λ t. val e.width t (words_at e.width (g.D.Domain.meaning d).fields n)) (tuple_at e.choices.now l.inner))

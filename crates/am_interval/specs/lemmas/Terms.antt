@@ -1,17 +1,17 @@
--- The terms that test an interval tell validity and membership.
+-- The terms for intervals tell validity and membership.
 use Rattle.std.proofs.Common.{◌≡◌, ◌≢◌, ℕ, ◌↔◌, refl, ◌∙◌, arith, ℤ, ◌≤ℤ◌, int_le, List, [], ◌∷◌, slice_index, bit_and, lit≤, lit<}
 use Rattle.std.proofs.lemmas.Int.{ints}
 use Rattle.std.proofs.lemmas.List.{get_or-take}
 use Rattle.am_bv.specs.Words.{one_if, signed}
 use Rattle.am_bv.specs.Operators.{arity, apply}
-use Rattle.am_bv.specs.Terms.{val}
+use Rattle.am_bv.specs.Terms.{val, binary}
 use Rattle.am_bv.specs.declared.op.Op.{Op}
 use Rattle.am_bv.specs.declared.op.Op.TheVariants.{And, Sle, Ule}
 use Rattle.am_bv.specs.declared.term.Term.TheVariants.{Field}
 use Rattle.am_bv.proofs.Laws.{laws, val-Node, val-Field}
 use Rattle.am_domain.specs.Laws.{TellsValidity, TellsMembership}
-use Rattle.am_interval.specs.Intervals.{IsInterval, IsBetween, Reading, unsigned}
-use Rattle.am_interval.specs.TestTerms.{binary, order_test, between_test}
+use Rattle.am_interval.specs.Intervals.{intervals, Reading, unsigned}
+use Rattle.am_interval.specs.Terms.{order_term, between_term}
 
 -- an operator that tells whether a word is at most another
 pub record IsAtMost (number : Reading) (op : Op) : Type 0 where
@@ -31,14 +31,14 @@ module _ (number : Reading) (op : Op) (at_most : IsAtMost number op) where
       val-Node w op (Field i ∷ Field j ∷ []) env ∙ at_most.tells w (val w (Field i) env ∷ val w (Field j) env ∷ [])
       ∙ rw (val-Field w i env, val-Field w j env) refl
 
-  pub tells_validity : TellsValidity 2 (IsInterval number) (λ w. order_test op)
+  pub tells_validity : TellsValidity (intervals number) (λ w. order_term op)
   tells_validity w width = record {
     fit = simp (laws, at_most.arguments) refl;
     small = simp laws (lit≤ tt);
     tells = λ env tuple. rw (val-order w 0 1 env) (at_most-tells _ _);
   }
 
-  pub tells_membership : TellsMembership 2 (IsBetween number) (λ w. between_test op)
+  pub tells_membership : TellsMembership (intervals number) (λ w. between_term op)
   tells_membership w width = record {
     fit = simp (laws, at_most.arguments) refl;
     small = simp laws (lit≤ tt);
