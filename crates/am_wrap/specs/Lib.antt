@@ -1,0 +1,2 @@
+pub mod WrappedIntervals
+pub mod lemmas

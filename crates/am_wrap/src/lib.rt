@@ -1,0 +1,25 @@
+//! Wrapped intervals: the abstract domain [`Wrapped`].
+//!
+//! A value is a start and an end, and its members are the words from the start upwards by 1, modulo
+//! 2^w, to the end. So an interval may pass from the greatest word to 0. The type implements `Domain`
+//! and `Anchored`, so that generic code may rest on their laws.
+//!
+//! ```
+//! let w = Width::new(4).ok_or("no width")?;
+//! let around_zero = Fields::pair(w.truncate(14), w.truncate(1)); // 14, 15, 0 and 1
+//! let three_and_four = Fields::pair(w.truncate(3), w.truncate(4));
+//! let hull = Wrapped.join(w, &around_zero, &three_and_four); // 14 and 4
+//! let two = Wrapped.contains(w, &hull, w.truncate(2)); // true
+//! let rank = Wrapped.rank(w, &hull); // 9, the number of words outside
+//! ```
+//!
+//! The definitions stand in `specs/WrappedIntervals.antt`, with the rules of the join in their order.
+//! The proofs of the laws are in `specs/lemmas`.
+#![tactic(auto)]
+
+mod wrapped;
+
+pub use wrapped::Wrapped;
+
+#[cfg(test)]
+mod tests;
