@@ -1,8 +1,8 @@
 -- The token in front of a text: behind spaces, a parenthesis or a word.
-use Rattle.std.proofs.Common.{◌≡◌, ℕ, suc, ◌+◌, ◌<◌, Bool, true, false, cond, List, [], ◌∷◌, ◌++◌, length, take, drop, ap, ◌∙◌, refl, sym, arith, ⊎_elim, ◌⊎◌}
+use Rattle.std.proofs.Common.{◌≡◌, ℕ, suc, ◌+◌, ◌<◌, Bool, true, false, cond, List, [], ◌∷◌, ◌++◌, length, take, drop, ap, ◌∙◌, refl, sym, arith, ⊎_elim, ◌⊎◌, ◌==◌}
 use Rattle.std.specs.Prelude.{reverse}
 use Rattle.std.specs.List.{prefix_len, suffix_len, list_all}
-use Rattle.std.proofs.lemmas.Bool.{cases_Bool, and_parts, not-true}
+use Rattle.std.proofs.lemmas.Bool.{cases_Bool, and_parts, eqb-true, not-true, or_cases}
 use Rattle.std.proofs.lemmas.List.{reverse-append}
 use Rattle.std.proofs.Math.Seq.{take-append_seam, drop-append_seam}
 use Rattle.am_text.specs.Tokens.{Placed, placed, is_space, is_parenthesis, is_word_byte, tokens_at, word_byte_before}
@@ -173,3 +173,11 @@ seam_back x ys h =
 -- a byte of no word ends no word
 pub suffix_none : (front : List ℕ) (b : ℕ) → is_word_byte b ≡ false → suffix_len is_word_byte (front ++ b ∷ []) ≡ 0
 suffix_none front b h = ap (prefix_len is_word_byte) (reverse-append front (b ∷ [])) ∙ prefix_no is_word_byte b (reverse front) h
+
+-- a parenthesis is no space
+pub parenthesis_is : (b : ℕ) → is_parenthesis b ≡ true → is_space b ≡ false
+parenthesis_is b h =
+    ⊎_elim
+    (λ (k : (b == 40) ≡ true). rw (eqb-true b 40 k) refl)
+    (λ (k : (b == 41) ≡ true). rw (eqb-true b 41 k) refl)
+    (or_cases _ _ h)

@@ -14,6 +14,17 @@
 //!     cursor.next().map(|token| token.text).ok_or(end)
 //! }
 //! ```
+//!
+//! # What is proved
+//!
+//! [`Tokens::new`] answers [`BadByte`] exactly where a byte is neither printable ASCII, a space nor
+//! a newline, with the first such place. Otherwise its tokens are the text's: each is the slice at
+//! its place, a parenthesis or a longest row of other bytes; places rise; no byte but spaces and
+//! newlines is left out; no byte is copied. A [`Cursor`] is the list of tokens left and the text's
+//! end: `peek` and `next` give the first token, and `None` exactly at the end; `expect` takes the
+//! word, or answers the next place exactly where another token or none stands there, and stays. A
+//! [`Writer`] holds exactly the bytes appended so far, with numbers in decimal, and is unchanged
+//! where memory is missing.
 #![tactic(auto)]
 
 mod cursor;

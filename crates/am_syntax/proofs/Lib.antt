@@ -1,0 +1,15 @@
+pub mod Finds
+pub mod Judging
+pub mod Takes
+pub mod PieceLaws
+pub mod ListLaws
+pub mod Loops
+pub mod TermSteps
+pub mod NumeralLaws
+pub mod TokenLaws
+pub mod TermLaws
+pub mod Repeats
+pub mod TextLaws
+pub mod CanonicalLaws
+pub mod Growing
+pub mod Laws

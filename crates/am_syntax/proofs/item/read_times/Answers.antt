@@ -1,0 +1,27 @@
+use Rattle.std.proofs.Common.{Err, map, ap, sym, ◌∙◌, subst}
+use Rattle.std.proofs.lemmas.List.{map_push}
+use Rattle.std.proofs.lemmas.Result.{err_from_is_err_and}
+use Rattle.am_syntax.specs.Readers.{Fails}
+use Rattle.am_syntax.proofs.Loops.{makes_err, times_done, times_fails, times_more}
+use Rattle.am_syntax.proofs.item.read_times.Goals as goal
+
+pub returns-in_err-read : goal.returns-in_err-read
+returns-in_err-read g c =
+    let p = err_from_is_err_and c.from_residual.result c.from_residual.ensures.1 in
+    let e = c.in_err-read.field-0.0 in
+    let reads = g.I.Item.reads c.args.item.now in
+    let here : Fails e c.read.new.text (reads (map g.I.Item.view c.items.found) c.items.text) =
+    subst (λ xs. Fails e c.read.new.text (reads (map g.I.Item.view xs) c.items.text)) c.as_slice.ensures c.in_err-read.ensures in
+    makes_err (map g.I.Item.view) c.read.new.text _ e c.from_residual.result (p.1 ∙ ap Err p.2)
+    (times_fails reads e c.args.count c.items.counter (map g.I.Item.view c.items.found) c.items.text c.read.new.text _ c.items-test.true here c.items.invariant)
+
+pub items-preserved : goal.items-preserved
+items-preserved g c =
+    let reads = g.I.Item.reads c.args.item.now in
+    let x = c.in_ok-read.field-0 in
+    rw (c.in_ok-push.ensures.ok, map_push g.I.Item.view c.items.found x)
+    (times_more reads c.args.count c.items.counter (map g.I.Item.view c.items.found) c.items.text (g.I.Item.view x) c.read.new.text _ c.items-test.true
+    (ap (λ xs. reads (map g.I.Item.view xs) c.items.text) (sym c.as_slice.ensures) ∙ c.in_ok-read.ensures) c.items.invariant)
+
+pub returns : goal.returns
+returns g c = times_done (g.I.Item.reads c.args.item.now) c.args.count c.items.counter (map g.I.Item.view c.items.found) c.items.text _ c.items-test.false c.items.invariant

@@ -1,0 +1,10 @@
+pub mod Numerals
+pub mod Names
+pub mod Readers
+pub mod Pieces
+pub mod Exact
+pub mod Spelling
+pub mod Canonical
+pub mod Terms
+pub mod Texts
+pub mod Theorems

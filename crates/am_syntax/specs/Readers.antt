@@ -1,0 +1,63 @@
+-- Reading from left to right: a value and what is left, or why the first token of what is left is refused.
+use Rattle.std.specs.Prelude.{◌≡◌, ℕ, List, [], ◌∷◌, Result, Ok, Err}
+use Rattle.am_text.specs.Tokens.{Left, Placed}
+use Rattle.am_syntax.specs.declared.refusal.Cause.{Cause}
+use Rattle.am_syntax.specs.declared.refusal.Cause.TheVariants.{Syntax}
+use Rattle.am_syntax.specs.declared.refusal.Failure.{Failure}
+use Rattle.am_syntax.specs.declared.refusal.Failure.TheVariants.{Refused, NoMemory}
+
+abbrev pub Word : Type 0
+Word = List ℕ
+
+abbrev pub Words : Type 0
+Words = List (List ℕ)
+
+abbrev pub Read : Type 0 → Type 0
+Read X = Result (X × Left) (Cause × Left)
+
+abbrev pub Reader : Type 0 → Type 0
+Reader X = Left → Read X
+
+abbrev pub done : {X : Type 0} → X → Reader X
+done x s = Ok (x, s)
+
+abbrev pub onward : {X Y : Type 0} → (X → Reader Y) → Read X → Read Y
+onward next (Ok p) = next p.0 p.1
+onward next (Err e) = Err e
+
+-- one reader behind another
+infixl 10 ◌>>=◌
+abbrev pub ◌>>=◌ : {X Y : Type 0} → Reader X → (X → Reader Y) → Reader Y
+(r >>= next) s = onward next (r s)
+
+-- what a judge says of the first token, which is taken where it is right
+abbrev pub settled : {X : Type 0} → Placed → List Placed → ℕ → Result X Cause → Read X
+settled t ts end (Ok x) = Ok (x, record { tokens = ts; end = end })
+settled t ts end (Err cause) = Err (cause, record { tokens = t ∷ ts; end = end })
+
+abbrev pub judged_in : {X : Type 0} → (Word → Result X Cause) → List Placed → ℕ → Read X
+judged_in judge [] end = Err (Syntax, record { tokens = []; end = end })
+judged_in judge (t ∷ ts) end = settled t ts end (judge t.word)
+
+-- the next token by a judge; the end of the text is no token. Each refusal is made here
+unfoldable pub judged : {X : Type 0} → (Word → Result X Cause) → Reader X
+judged judge s = judged_in judge s.tokens s.end
+
+-- what a function returned, seen by view, and what it left: just what a reader reads
+abbrev pub Gives : {X Y : Type 0} → (X → Y) → Result X Cause → Left → Read Y → Type 0
+Gives view (Ok x) left read = read ≡ Ok (view x, left)
+Gives view (Err cause) left read = read ≡ Err (cause, left)
+
+-- the same of a function that takes memory, unless that ran out
+abbrev pub Fails : {Y : Type 0} → Failure → Left → Read Y → Type 0
+Fails (Refused cause) left read = read ≡ Err (cause, left)
+Fails NoMemory left read = Unit {0}
+
+abbrev pub Makes : {X Y : Type 0} → (X → Y) → Result X Failure → Left → Read Y → Type 0
+Makes view (Ok x) left read = read ≡ Ok (view x, left)
+Makes view (Err e) left read = Fails e left read
+
+-- a judge's function
+abbrev pub Says : {X Y : Type 0} → (X → Y) → Result X Cause → Result Y Cause → Type 0
+Says view (Ok x) verdict = verdict ≡ Ok (view x)
+Says view (Err cause) verdict = verdict ≡ Err cause

@@ -1,0 +1,87 @@
+//! Items one after the other, each of which sees the items before it.
+
+ghost use Rattle.std.specs.Prelude.{◌≡◌, [], map};
+ghost use Rattle.am_text.specs.Tokens.{words};
+ghost use Rattle.am_syntax.specs.Pieces.{MovesOn, repeat_from, times_from};
+ghost use Rattle.am_syntax.specs.Readers.{Makes};
+
+use crate::refusal::Failure;
+use am_bv::Row;
+use am_text::Cursor;
+use std::alloc::Global;
+
+/// What stands one after the other.
+pub trait Item<'a> {
+    ghost use Rattle.std.specs.Prelude.{List};
+    ghost use Rattle.am_syntax.specs.Readers.{Reader};
+
+    /// An item in memory.
+    type Value: Drop;
+
+    /// An item as plain data.
+    ghost Shown: { Type 0 };
+
+    ghost view: { Self.Value → Shown };
+
+    /// How an item is read behind those seen.
+    ghost reads: { Self → List Shown → Reader Shown };
+
+    /// When an item can be read.
+    ghost can: { Self → Type 0 };
+
+    /// Reads an item behind those seen.
+    fn read(
+        &self,
+        alloc: Global,
+        text: &mut Cursor<'a>,
+        seen: &[Self::Value],
+    ) -> Result<Self::Value, Failure>
+        requires { can self.now }
+        ensures { Makes view result text.new (reads self.now (map view seen.now) text.old) };
+}
+
+/// What stands one after the other as long as the text goes on so.
+pub trait Listed<'a>: Item<'a> {
+    ghost use Rattle.std.specs.Prelude.{Bool};
+    ghost use Rattle.am_syntax.specs.Readers.{Words};
+
+    /// Whether an item comes.
+    ghost goes: { Words → Bool };
+
+    fn comes(&self, text: &Cursor<'a>) -> bool
+        ensures { result ≡ goes (words text.now) };
+}
+
+/// Reads so many items.
+pub fn read_times<'a, I: Item<'a>>(
+    alloc: Global,
+    text: &mut Cursor<'a>,
+    item: &I,
+    count: u32,
+) -> Result<Row<I::Value>, Failure>
+    requires { I.can item.now }
+    ensures { Makes (map I.view) result text.new (times_from (I.reads item.now) count [] text.old) }
+{
+    let mut found = Row::new(alloc);
+    'items: for _ in 0..count {
+        found.push(item.read(alloc, text, found.as_slice())?)?;
+    }
+    Ok(found)
+}
+
+/// Reads items as long as one comes.
+pub fn read_list<'a, I: Listed<'a>>(
+    alloc: Global,
+    text: &mut Cursor<'a>,
+    item: &I,
+) -> Result<Row<I::Value>, Failure>
+    requires can { I.can item.now }
+    requires moves { MovesOn (I.reads item.now) }
+    ensures { Makes (map I.view) result text.new (repeat_from I.goes (I.reads item.now) [] text.old) }
+{
+    let mut found = Row::new(alloc);
+    'items: while item.comes(text) {
+        found.push(item.read(alloc, text, found.as_slice())?)?;
+    }
+    Ok(found)
+}

@@ -1,0 +1,68 @@
+//! Reading of text formats, with the first refusal and its place; numbers, names and terms.
+//!
+//! A format is written twice, as a grammar and as code. The grammar is a *piece*
+//! (`specs/Pieces.antt`): how a value is spelled, which values are good, and how one is read from
+//! left to right. Pieces are put together from single tokens, one after the other, behind a key
+//! word, so many of them, as many as follow, or by a choice, and each way of putting together has
+//! one law: what a piece reads is spelled so and is good, and what is good and spelled so is read.
+//! The code is one function for each line of the grammar, a straight line of `?`, over [`take`],
+//! [`read_times`] and [`read_list`]. It answers exactly what the piece reads.
+//!
+//! A refusal is born at one place, the verdict of a [`Judge`] on one token, and carries no place:
+//! the cursor stays at the refused token, and [`Cause::at`] adds the place at the edge.
+//!
+//! ```text
+//! /// `width` and the number of bits.
+//! fn read_width(text: &mut Cursor<'_>) -> Result<u64, Cause>
+//!     ensures { Gives (λ n. n) result text.new ((keyed (codes "width") (number 2 8)).read text.old) }
+//! {
+//!     take_key(text, b"width")?;
+//!     take_number(text, 2, 8)
+//! }
+//! ```
+//!
+//! [`read_number`], [`read_name`] and [`read_term`] answer refusals with their places, and
+//! [`print_term`] writes what [`read_term`] reads.
+//!
+//! # What is proved
+//!
+//! For each way of putting pieces together one law is proved, once: what a piece reads is spelled
+//! so and is good, and what is good and spelled so is read, where what follows may follow.
+//! [`take`], [`read_times`] and [`read_list`] answer exactly what the pieces read, for every judge
+//! and item. A refusal leaves the cursor at the refused token. [`read_number`], [`read_name`] and
+//! [`read_term`] answer exactly the number, name or term that is spelled, or the first refusal with
+//! the place of its token; a text of a term has a value or a first refusal, and not both.
+//! [`print_term`] appends the term's canonical text, and after want of memory the writer holds its
+//! old text and a part of the new; a printed term has the term's words, and reads back. The depth
+//! of the calls of [`read_term`] is at most the nesting allowed, which is tested before going down.
+#![tactic(auto)]
+
+mod item;
+mod judge;
+mod limits;
+mod names;
+mod numerals;
+mod print;
+mod reading;
+mod refusal;
+mod terms;
+mod text;
+pub mod theorems;
+mod words;
+
+pub use item::{Item, Listed, read_list, read_times};
+pub use judge::{Judge, take};
+pub use limits::{Letter, TermLimits};
+pub use names::{Operator, no_name, op_name, op_named, take_operator};
+pub use numerals::{is_digits, is_name};
+pub use print::print_term;
+pub use reading::{read_name, read_number, read_term};
+pub use refusal::{Cause, Failure, ReadError, Refusal};
+pub use terms::take_term;
+pub use text::{close, open, placed};
+pub use words::{
+    Closing, Each, Key, Name, Number, is_next, take_closing, take_key, take_name, take_number,
+};
+
+#[cfg(test)]
+mod tests;

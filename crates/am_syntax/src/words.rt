@@ -1,0 +1,206 @@
+//! Key words, numerals and names.
+
+ghost use Rattle.std.specs.Prelude.{◌≡◌, ◌≤◌, IfOk};
+ghost use Rattle.am_text.specs.Tokens.{words};
+ghost use Rattle.am_syntax.specs.Pieces.{closing, key, name, next_is, number, number_judge};
+ghost use Rattle.am_syntax.specs.Readers.{Gives, Says};
+
+use crate::item::Item;
+use crate::judge::{Judge, take};
+use crate::numerals;
+use crate::refusal::{Cause, Failure};
+use am_text::Cursor;
+use std::alloc::Global;
+
+/// A key word.
+#[derive(Clone, Copy)]
+pub struct Key<'w> {
+    pub word: &'w [u8],
+}
+
+impl<'a, 'w> Judge<'a> for Key<'w> {
+    ghost use Rattle.am_syntax.specs.Pieces.{key_judge, syntax};
+
+    type Value = ();
+
+    ghost Shown = { Unit {0} };
+
+    ghost view = { λ _. tt };
+
+    ghost verdict = { λ own word. key_judge syntax own.word.now word };
+
+    ghost known = { λ _ _. Unit {0} };
+
+    fn judge(&self, word: &'a [u8]) -> Result<(), Cause> {
+        if word == self.word {
+            Ok(())
+        } else {
+            Err(Cause::Syntax)
+        }
+    }
+}
+
+/// The parenthesis behind the last argument of an operator.
+#[derive(Clone, Copy)]
+pub struct Closing;
+
+impl<'a> Judge<'a> for Closing {
+    ghost use Rattle.std.specs.Prelude.{codes};
+    ghost use Rattle.am_syntax.specs.Pieces.{count, key_judge};
+
+    type Value = ();
+
+    ghost Shown = { Unit {0} };
+
+    ghost view = { λ _. tt };
+
+    ghost verdict = { λ _ word. key_judge count (codes ")") word };
+
+    ghost known = { λ _ _. Unit {0} };
+
+    fn judge(&self, word: &'a [u8]) -> Result<(), Cause> {
+        if word == b")".as_slice() {
+            Ok(())
+        } else {
+            Err(Cause::Count)
+        }
+    }
+}
+
+/// A numeral of a number from `least` to `most`.
+#[derive(Clone, Copy)]
+pub struct Number {
+    pub least: u64,
+    pub most: u64,
+}
+
+impl<'a> Judge<'a> for Number {
+    ghost use Rattle.std.specs.Prelude.{ℕ, ◌≤◌};
+    ghost use Rattle.am_syntax.specs.Pieces.{number_judge};
+
+    type Value = u64;
+
+    ghost Shown = { ℕ };
+
+    ghost view = { λ n. n };
+
+    ghost verdict = { λ own word. number_judge own.least own.most word };
+
+    ghost known = { λ own n. (own.least ≤ n) × (n ≤ own.most) };
+
+    fn judge(&self, word: &'a [u8]) -> Result<u64, Cause> {
+        number_of(word, self.least, self.most)
+    }
+}
+
+fn number_of(word: &[u8], least: u64, most: u64) -> Result<u64, Cause>
+    ensures verdict { Says (λ n. n) result (number_judge least most word.now) }
+    ensures range { IfOk result (λ n. (least ≤ n) × (n ≤ most)) }
+{
+    if !numerals::is_digits(word) {
+        return Err(Cause::Syntax);
+    }
+    match numerals::number_of(word) {
+        Some(n) if numerals::is_canonical(word) && least <= n && n <= most => Ok(n),
+        _ => Err(Cause::Number),
+    }
+}
+
+/// A nonterminal's name.
+#[derive(Clone, Copy)]
+pub struct Name;
+
+impl<'a> Judge<'a> for Name {
+    ghost use Rattle.am_syntax.specs.Pieces.{name_judge, syntax};
+    ghost use Rattle.am_syntax.specs.Readers.{Word};
+
+    type Value = &'a [u8];
+
+    ghost Shown = { Word };
+
+    ghost view = { λ name. name.now };
+
+    ghost verdict = { λ _ word. name_judge syntax word };
+
+    ghost known = { λ _ _. Unit {0} };
+
+    fn judge(&self, word: &'a [u8]) -> Result<&'a [u8], Cause> {
+        if numerals::is_name(word) {
+            Ok(word)
+        } else {
+            Err(Cause::Syntax)
+        }
+    }
+}
+
+/// Tokens of one judge, one after the other.
+#[derive(Clone, Copy)]
+pub struct Each<J> {
+    pub judge: J,
+}
+
+impl<'a, J: Judge<'a>> Item<'a> for Each<J> {
+    ghost use Rattle.am_syntax.specs.Readers.{judged};
+
+    type Value = J::Value;
+
+    ghost Shown = { J.Shown };
+
+    ghost view = { J.view };
+
+    ghost reads = { λ own _. judged (J.verdict own.judge) };
+
+    ghost can = { λ _. Unit {0} };
+
+    fn read(
+        &self,
+        _alloc: Global,
+        text: &mut Cursor<'a>,
+        _seen: &[J::Value],
+    ) -> Result<J::Value, Failure> {
+        Ok(take(text, &self.judge)?)
+    }
+}
+
+/// Whether this word comes next.
+pub fn is_next(text: &Cursor<'_>, word: &[u8]) -> bool
+    ensures { result ≡ next_is word.now (words text.now) }
+{
+    match text.peek() {
+        Some(token) => token.text == word,
+        None => false,
+    }
+}
+
+/// Takes a key word.
+#[tactic(auto, unfolding(crate::specs::Pieces::key_or))]
+pub fn take_key(text: &mut Cursor<'_>, word: &[u8]) -> Result<(), Cause>
+    ensures { Gives (λ _. tt) result text.new ((key word.now).read text.old) }
+{
+    take(text, &Key { word })
+}
+
+/// Takes a closing parenthesis behind the last argument of an operator.
+#[tactic(auto, unfolding(crate::specs::Pieces::key_or))]
+pub fn take_closing(text: &mut Cursor<'_>) -> Result<(), Cause>
+    ensures { Gives (λ _. tt) result text.new (closing.read text.old) }
+{
+    take(text, &Closing)
+}
+
+/// Takes a numeral of a number from `least` to `most`.
+#[tactic(auto, unfolding(crate::specs::Pieces::number))]
+pub fn take_number(text: &mut Cursor<'_>, least: u64, most: u64) -> Result<u64, Cause>
+    ensures value { Gives (λ n. n) result text.new ((number least most).read text.old) }
+    ensures range { IfOk result (λ n. (least ≤ n) × (n ≤ most)) }
+{
+    take(text, &Number { least, most })
+}
+
+/// Takes a nonterminal's name.
+#[tactic(auto, unfolding(crate::specs::Pieces::name_or))]
+pub fn take_name<'a>(text: &mut Cursor<'a>) -> Result<&'a [u8], Cause>
+    ensures { Gives (λ v. v.now) result text.new (name.read text.old) }
+{
+    take(text, &Name)
+}

@@ -1,0 +1,3 @@
+-- What proofs of other crates may cite of the tokens of a text.
+pub use Rattle.am_text.proofs.Front.{tokens_at-space, tokens_at-parenthesis, tokens_at-whole, parenthesis_is, IsSeam, seam_front, seam_back, suffix_none}
+pub use Rattle.am_text.proofs.Joining.{tokens_at-append, words_of-append, words_of-space, words_of-parenthesis, words_of-word, words_of-before}
