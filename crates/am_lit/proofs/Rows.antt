@@ -1,3 +1,4 @@
+-- Unit rows: more clauses, what holds, and clauses that are new over them.
 use Rattle.std.proofs.Common.{ℕ, ◌≡◌, Bool, true, false, not, eqb, List, [], ◌∷◌, ◌++◌, All, map, refl, sym, ◌∙◌, inl, inr}
 use Rattle.std.specs.Prelude.{Contains, ◌≢◌, IsTrue}
 use Rattle.std.proofs.lemmas.Bool.{ne_eqb}
@@ -8,6 +9,7 @@ use Rattle.am_lit.specs.UnitRow.{IsForcedBy, IsUnitStep, IsUnitRow, MeetsConflic
 use Rattle.am_lit.proofs.Members.{Contains-head, Contains-map, Contains-filter, member_or, same_or}
 use Rattle.am_lit.proofs.Truths.{literal_value-opposite_of, true_literal}
 
+-- unit rows stay unit rows when clauses are added
 pub IsUnitRow-append : (clauses more : List (List ℕ)) (given row : List ℕ) → IsUnitRow clauses given row → IsUnitRow (clauses ++ more) given row
 IsUnitRow-append clauses more given [] u = tt
 IsUnitRow-append clauses more given (l ∷ row) u = (step u.0, IsUnitRow-append clauses more given row u.1) where
@@ -34,6 +36,7 @@ module _ (v : ℕ → Bool) (clauses : List (List ℕ)) (satisfied : Satisfies v
         | inr ne ↦ absurd (false_in v row some.0 holds (All-contains (λ m. m ≢ l → Contains row (opposite_of m)) c some.0 f.1 some.1 ne) some.2)
       ]
 
+  -- the literals of a unit row hold where the given ones do
   pub AllHold-row : (given row : List ℕ) → AllHold v given → IsUnitRow clauses given row → AllHold v row
   AllHold-row given [] g u = All-nil (λ l. IsTrue (literal_value v l))
   AllHold-row given (l ∷ row) g u =
@@ -43,13 +46,14 @@ module _ (v : ℕ → Bool) (clauses : List (List ℕ)) (satisfied : Satisfies v
         | inr f ↦ forced_holds row f.0 l rest f.1 f.2
       ]) rest
 
+  -- a unit row from literals that hold meets no conflict
   pub no_conflict : (given row : List ℕ) → AllHold v given → IsUnitRow clauses given row → ¬ (MeetsConflict clauses row)
   no_conflict given row g u k =
       let some = true_literal v k.0 (All-contains (λ d. IsTrue (clause_value v d)) clauses k.0 satisfied k.1) in
       false_in v row some.0 (AllHold-row given row g u) (All-contains (λ m. Contains row (opposite_of m)) k.0 some.0 k.2 some.1) some.2
 
 -- given literals are a unit row
-given_row : (clauses : List (List ℕ)) (given row : List ℕ) → All (Contains given) row → IsUnitRow clauses given row
+pub given_row : (clauses : List (List ℕ)) (given row : List ℕ) → All (Contains given) row → IsUnitRow clauses given row
 given_row clauses given [] h = tt
 given_row clauses given (l ∷ row) h =
     (inl (All-head (Contains given) l row h), given_row clauses given row (All-tail (Contains given) l row h))
