@@ -3,11 +3,12 @@ use Rattle.std.proofs.Common.{ℕ, ◌≡◌, ◌<◌, Bool, List, [], ◌∷◌
 use Rattle.std.specs.Prelude.{All}
 use Rattle.std.proofs.lemmas.List.Elements.{All-head, All-tail}
 use Rattle.am_gate.specs.Build.{Place, Means}
+use Rattle.am_gate.specs.Promises.{MakesGates}
 use Rattle.am_bv.specs.declared.op.Op.{Op}
 use Rattle.am_bv.specs.Operators.{arity, apply, apply_at, weight_of}
 use Rattle.am_blast.specs.Words.{reads, ReadsAs, IsWord}
 use Rattle.am_blast.specs.Circuits.{circuit_at, circuit_of}
-use Rattle.am_blast.specs.Promises.{MakesGates, IsCircuitOf}
+use Rattle.am_blast.specs.Promises.{IsCircuitOf}
 
 pub with_one : {A : Type 0} (P : List A → Type 0) → ((a : A) → P (a ∷ [])) → (args : List A) → length args ≡ 1 → P args
 with_one P h [] e = absurd (omega arith)
@@ -35,6 +36,7 @@ module _ (w : ℕ) (op : Op) where
   abbrev HasGates : Place → List (List ℕ) → Type 0
   HasGates p args = All (IsWord w p.next) args → MakesGates (circuit_of w op args) (weight_of w op) (IsWord w) p
 
+  -- the circuit of an operator of one argument, from its meaning and its gates
   pub of_one : arity op ≡ 1 →
       ((v : ℕ → Bool) (a : List ℕ) → length a ≡ w → Means v (circuit_at w op a [] []) (ReadsAs v w (apply_at w op (reads v a) 0 0))) →
       ((p : Place) (a : List ℕ) → 0 < p.next → IsWord w p.next a → MakesGates (circuit_at w op a [] []) (weight_of w op) (IsWord w) p) →
@@ -44,6 +46,7 @@ module _ (w : ℕ) (op : Op) where
     makes = λ p args pos count. with_one (HasGates p) (λ a h. makes p a pos (All-head (IsWord w p.next) a [] h)) args (rw one at count);
   }
 
+  -- the circuit of an operator of two arguments, from its meaning and its gates
   pub of_two : arity op ≡ 2 →
       ((v : ℕ → Bool) (a b : List ℕ) → length a ≡ w → length b ≡ w →
       Means v (circuit_at w op a b []) (ReadsAs v w (apply_at w op (reads v a) (reads v b) 0))) →
@@ -57,6 +60,7 @@ module _ (w : ℕ) (op : Op) where
         (λ a b h. makes p a b pos (All-head (IsWord w p.next) a (b ∷ []) h) (All-head (IsWord w p.next) b [] (All-tail (IsWord w p.next) a (b ∷ []) h))) args (rw two at count);
   }
 
+  -- the circuit of an operator of three arguments, from its meaning and its gates
   pub of_three : arity op ≡ 3 →
       ((v : ℕ → Bool) (a b c : List ℕ) → length a ≡ w → length b ≡ w → length c ≡ w →
       Means v (circuit_at w op a b c) (ReadsAs v w (apply_at w op (reads v a) (reads v b) (reads v c)))) →

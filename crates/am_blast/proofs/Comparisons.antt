@@ -7,21 +7,21 @@ use Rattle.std.proofs.lemmas.Bool.{le-leb, lt-leb, ltb-true, ltb-false, leb-true
 use Rattle.std.proofs.lemmas.Bool.Decides.{nat_tests}
 use Rattle.std.proofs.lemmas.Int.{ints}
 use Rattle.std.proofs.lemmas.List.{length-map, take-append-drop, length-take-le, length-drop}
+use Rattle.am_lit.proofs.Laws.{literal_value-opposite_of}
+use Rattle.am_gate.specs.Circuit.{Net, truth, IsLiteral}
+use Rattle.am_gate.specs.Build.{Step, Place, Means, Follows}
+use Rattle.am_gate.proofs.Laws.{Means-bind, Means-answer, Means-truth, Follows-bind, Follows-answer, Makes-bind, Makes-answer, Makes-count, IsLiteral-opposite}
+use Rattle.am_gate.specs.Promises.{MakesGates}
 use Rattle.am_lit.specs.Literal.{opposite_of}
 use Rattle.am_lit.specs.Truth.{literal_value}
-use Rattle.am_lit.proofs.Truths.{literal_value-opposite_of}
-use Rattle.am_gate.specs.Circuit.{Net, truth}
-use Rattle.am_gate.specs.Build.{Step, Place, Means, Follows}
-use Rattle.am_gate.proofs.Building.{Means-bind, Means-answer, Means-truth, Follows-bind, Follows-answer}
 use Rattle.am_bv.specs.declared.op.Op.TheVariants.{Ult, Ule, Slt, Sle, Umin, Umax, Smin, Smax}
 use Rattle.am_bv.specs.Words.{signed}
-use Rattle.am_blast.specs.Words.{bit, reads, ReadsAs, IsLiteral, IsWord, opposites, sign_turned}
+use Rattle.am_blast.specs.Words.{bit, reads, ReadsAs, IsWord, AreWords, opposites, sign_turned}
 use Rattle.am_blast.specs.Bitwise.{choice}
 use Rattle.am_blast.specs.Sums.{adder, carry_of}
 use Rattle.am_blast.specs.Comparisons.{below, most}
-use Rattle.am_blast.specs.Promises.{MakesGates, IsCircuitOf}
-use Rattle.am_blast.proofs.Making.{Makes-bind, Makes-answer, Makes-count}
-use Rattle.am_blast.proofs.Words.{reads-lt, reads-opposites, reads-append, value-truth, IsLiteral-opposite, All-opposites, All-sign_turned}
+use Rattle.am_blast.specs.Promises.{IsCircuitOf}
+use Rattle.am_blast.proofs.Words.{reads-lt, reads-opposites, reads-append, value-truth, All-opposites, All-sign_turned}
 use Rattle.am_blast.proofs.Flags.{Means-flagged, Makes-flagged}
 use Rattle.am_blast.proofs.Bits.{Means-choice, Makes-choice}
 use Rattle.am_blast.proofs.Arguments.{of_two}
@@ -37,8 +37,8 @@ pub Means-most : (v : ℕ → Bool) (xs ys : List ℕ) → IsTrue (v 0) → leng
     Means v (most xs ys) (λ l. literal_value v l ≡ leb (reads v xs) (reads v ys))
 unfolding carry_of
 Means-most v xs ys t e =
-    Means-bind v _ _ _ _ (Means-adder v ys (opposites xs) truth (length-map xs opposite_of ∙ sym e))
-    (λ both s. Means-answer v _ _
+    Means-bind _ (Means-adder v ys (opposites xs) truth (length-map xs opposite_of ∙ sym e))
+    (λ both s. Means-answer _
     (carry_is (reads v both.0) (reads v xs) (reads v ys) (reads v (opposites xs)) (2 ^ length ys) (literal_value v both.1)
     (s.1 ∙ ap (λ b. reads v ys + reads v (opposites xs) + bit b) (value-truth v t))
     (rw (← e) at (reads-opposites v xs)) (rw s.0 at (reads-lt v both.0)) (reads-lt v ys)))
@@ -47,36 +47,39 @@ pub Means-below : (v : ℕ → Bool) (xs ys : List ℕ) → IsTrue (v 0) → len
     Means v (below xs ys) (λ l. literal_value v l ≡ ltb (reads v xs) (reads v ys))
 unfolding below
 Means-below v xs ys t e =
-    Means-bind v _ _ _ _ (Means-most v ys xs t (sym e))
-    (λ carry h. Means-answer v _ _ (literal_value-opposite_of v carry ∙ ap not h ∙ not_most (reads v xs) (reads v ys)))
+    Means-bind _ (Means-most v ys xs t (sym e))
+    (λ carry h. Means-answer _ (literal_value-opposite_of v carry ∙ ap not h ∙ not_most (reads v xs) (reads v ys)))
   where
     not_most : (a b : ℕ) → not (leb b a) ≡ ltb a b
     not_most a b = grind (arith, nat_tests)
 
+-- the gates of the test whether one word is at most another
 pub Makes-most : (w : ℕ) (xs ys : List ℕ) (p : Place) → 0 < p.next → IsWord w p.next xs → IsWord w p.next ys →
     MakesGates (most xs ys) (3 * w) IsLiteral p
 unfolding carry_of
 Makes-most w xs ys p least hx hy =
-    Makes-bind _ _ p (3 * w) 0 _ _ _
+    Makes-bind _ 0
     (subst (λ n. MakesGates (adder ys (opposites xs) truth) (3 * n) (λ vars r. IsWord n vars r.0 × IsLiteral vars r.1) p) hy.bits
     (Makes-adder ys (opposites xs) truth p (length-map xs opposite_of ∙ hx.bits ∙ sym hy.bits) hy.inside (All-opposites p.next xs hx.inside) least))
     (omega arith)
-    (λ both q l h. Makes-answer _ q _ h.1)
+    (λ both q l h. Makes-answer _ h.1)
 
 pub Makes-below : (w : ℕ) (xs ys : List ℕ) (p : Place) → 0 < p.next → IsWord w p.next xs → IsWord w p.next ys →
     MakesGates (below xs ys) (3 * w) IsLiteral p
 unfolding below
 Makes-below w xs ys p least hx hy =
-    Makes-bind _ _ p (3 * w) 0 _ _ _ (Makes-most w ys xs p least hy hx) (omega arith)
-    (λ carry q l h. Makes-answer _ q _ (IsLiteral-opposite q.next carry h))
+    Makes-bind _ 0 (Makes-most w ys xs p least hy hx) (omega arith)
+    (λ carry q l h. Makes-answer _ (IsLiteral-opposite q.next carry h))
 
+-- the test is an adder's carry
 pub Follows-most : (xs ys : List ℕ) (n m : Net) (both : List ℕ × ℕ) → Follows (adder ys (opposites xs) truth) n both m → Follows (most xs ys) n both.1 m
 unfolding carry_of
-Follows-most xs ys n m both h = Follows-bind _ _ _ _ _ _ _ h (Follows-answer both.1 m)
+Follows-most xs ys n m both h = Follows-bind _ h Follows-answer
 
+-- one word is below another where the other is not at most the one
 pub Follows-below : (xs ys : List ℕ) (n m : Net) (carry : ℕ) → Follows (most ys xs) n carry m → Follows (below xs ys) n (opposite_of carry) m
 unfolding below
-Follows-below xs ys n m carry h = Follows-bind _ _ _ _ _ _ _ h (Follows-answer (opposite_of carry) m)
+Follows-below xs ys n m carry h = Follows-bind _ h Follows-answer
 
 -- turning the top bits turns the signed order into the unsigned one
 
@@ -146,6 +149,14 @@ length-sign_turned xs =
     ∙ sym (length-append (take (length xs - 1) xs) (drop (length xs - 1) xs))
     ∙ ap length (take-append-drop (length xs - 1) xs)
 
+-- two words with their signs turned are two words
+pub AreWords-sign_turned : (n : ℕ) (xs ys : List ℕ) → AreWords n xs ys → AreWords n (sign_turned xs) (sign_turned ys)
+AreWords-sign_turned n xs ys h = record {
+  lengths = length-sign_turned ys ∙ h.lengths ∙ sym (length-sign_turned xs);
+  first = All-sign_turned n xs h.first;
+  second = All-sign_turned n ys h.second;
+}
+
 pub IsWord-sign_turned : (w n : ℕ) (xs : List ℕ) → IsWord w n xs → IsWord w n (sign_turned xs)
 IsWord-sign_turned w n xs h = record { bits = length-sign_turned xs ∙ h.bits; inside = All-sign_turned n xs h.inside }
 
@@ -173,24 +184,28 @@ Makes-most_signed w xs ys p least hx hy =
 
 -- the operators
 
+-- the circuit of the unsigned less
 pub ult-circuit : (w : ℕ) → 1 ≤ w → IsCircuitOf w Ult
 ult-circuit w one = of_two w Ult refl
-    (λ v a b la lb. Means-truth v _ _ (λ t. Means-flagged v w _ _ one t (Means-below v a b t (lb ∙ sym la))))
+    (λ v a b la lb. Means-truth (λ t. Means-flagged v w _ _ one t (Means-below v a b t (lb ∙ sym la))))
     (λ p a b least ha hb. Makes-flagged w (3 * w) _ p one least (Makes-below w a b p least ha hb))
 
+-- the circuit of the unsigned at most
 pub ule-circuit : (w : ℕ) → 1 ≤ w → IsCircuitOf w Ule
 ule-circuit w one = of_two w Ule refl
-    (λ v a b la lb. Means-truth v _ _ (λ t. Means-flagged v w _ _ one t (Means-most v a b t (lb ∙ sym la))))
+    (λ v a b la lb. Means-truth (λ t. Means-flagged v w _ _ one t (Means-most v a b t (lb ∙ sym la))))
     (λ p a b least ha hb. Makes-flagged w (3 * w) _ p one least (Makes-most w a b p least ha hb))
 
+-- the circuit of the signed less
 pub slt-circuit : (w : ℕ) → 1 ≤ w → IsCircuitOf w Slt
 slt-circuit w one = of_two w Slt refl
-    (λ v a b la lb. Means-truth v _ _ (λ t. Means-flagged v w _ _ one t (Means-below_signed v w a b one t la lb)))
+    (λ v a b la lb. Means-truth (λ t. Means-flagged v w _ _ one t (Means-below_signed v w a b one t la lb)))
     (λ p a b least ha hb. Makes-flagged w (3 * w) _ p one least (Makes-below_signed w a b p least ha hb))
 
+-- the circuit of the signed at most
 pub sle-circuit : (w : ℕ) → 1 ≤ w → IsCircuitOf w Sle
 sle-circuit w one = of_two w Sle refl
-    (λ v a b la lb. Means-truth v _ _ (λ t. Means-flagged v w _ _ one t (Means-most_signed v w a b one t la lb)))
+    (λ v a b la lb. Means-truth (λ t. Means-flagged v w _ _ one t (Means-most_signed v w a b one t la lb)))
     (λ p a b least ha hb. Makes-flagged w (3 * w) _ p one least (Makes-most_signed w a b p least ha hb))
 
 -- one of two words, as a test says
@@ -203,7 +218,7 @@ Means-either v w test holds a b la lb means =
 Makes-either : (w : ℕ) (test : Step ℕ) (a b : List ℕ) (p : Place) → IsWord w p.next a → IsWord w p.next b →
     MakesGates test (3 * w) IsLiteral p → MakesGates (choice test a b) (4 * w) (IsWord w) p
 Makes-either w test a b p ha hb makes =
-    Makes-count _ p (3 * w + w) (4 * w) _
+    Makes-count
     (subst (λ n. MakesGates (choice test a b) (3 * w + n) (IsWord n) p) ha.bits (Makes-choice test (3 * w) a b p (hb.bits ∙ sym ha.bits) ha.inside hb.inside makes))
     (omega arith)
 
@@ -213,22 +228,26 @@ least-is a b = grind (arith, nat_tests)
 greatest-is : (a b : ℕ) → cond (ltb a b) b a ≡ max a b
 greatest-is a b = grind (arith, nat_tests)
 
+-- the circuit of the unsigned minimum
 pub umin-circuit : (w : ℕ) → 1 ≤ w → IsCircuitOf w Umin
 umin-circuit w one = of_two w Umin refl
-    (λ v a b la lb. Means-truth v _ _ (λ t. rw (← least-is (reads v a) (reads v b)) (Means-either v w _ _ a b la lb (Means-below v a b t (lb ∙ sym la)))))
+    (λ v a b la lb. Means-truth (λ t. rw (← least-is (reads v a) (reads v b)) (Means-either v w _ _ a b la lb (Means-below v a b t (lb ∙ sym la)))))
     (λ p a b least ha hb. Makes-either w _ a b p ha hb (Makes-below w a b p least ha hb))
 
+-- the circuit of the unsigned maximum
 pub umax-circuit : (w : ℕ) → 1 ≤ w → IsCircuitOf w Umax
 umax-circuit w one = of_two w Umax refl
-    (λ v a b la lb. Means-truth v _ _ (λ t. rw (← greatest-is (reads v a) (reads v b)) (Means-either v w _ _ b a lb la (Means-below v a b t (lb ∙ sym la)))))
+    (λ v a b la lb. Means-truth (λ t. rw (← greatest-is (reads v a) (reads v b)) (Means-either v w _ _ b a lb la (Means-below v a b t (lb ∙ sym la)))))
     (λ p a b least ha hb. Makes-either w _ b a p hb ha (Makes-below w a b p least ha hb))
 
+-- the circuit of the signed minimum
 pub smin-circuit : (w : ℕ) → 1 ≤ w → IsCircuitOf w Smin
 smin-circuit w one = of_two w Smin refl
-    (λ v a b la lb. Means-truth v _ _ (λ t. Means-either v w _ _ a b la lb (Means-below_signed v w a b one t la lb)))
+    (λ v a b la lb. Means-truth (λ t. Means-either v w _ _ a b la lb (Means-below_signed v w a b one t la lb)))
     (λ p a b least ha hb. Makes-either w _ a b p ha hb (Makes-below_signed w a b p least ha hb))
 
+-- the circuit of the signed maximum
 pub smax-circuit : (w : ℕ) → 1 ≤ w → IsCircuitOf w Smax
 smax-circuit w one = of_two w Smax refl
-    (λ v a b la lb. Means-truth v _ _ (λ t. Means-either v w _ _ b a lb la (Means-below_signed v w a b one t la lb)))
+    (λ v a b la lb. Means-truth (λ t. Means-either v w _ _ b a lb la (Means-below_signed v w a b one t la lb)))
     (λ p a b least ha hb. Makes-either w _ b a p hb ha (Makes-below_signed w a b p least ha hb))

@@ -6,38 +6,29 @@ use Rattle.std.proofs.Math.Nat.{pow-succ'}
 use Rattle.std.proofs.Math.Dec.{eqb-suc-zero}
 use Rattle.std.proofs.Math.Pow.{pow_mono}
 use Rattle.std.proofs.lemmas.Nat.{div-mul-add, mod-mul-add}
-use Rattle.std.proofs.lemmas.List.{length-map, length-reverse, get_or-reverse, reverse-append, reverse-reverse, drop_all, length-replicate, length-take-le, take-append-drop}
+use Rattle.std.proofs.lemmas.List.{length-map, length-reverse, get_or-reverse, reverse-append, reverse-reverse, drop_all, length-replicate, length-take-le}
 use Rattle.std.proofs.lemmas.List.Elements.{All-nil, All-cons, All-append, All-take}
+use Rattle.am_gate.specs.Circuit.{Net, Grows, HasRoom, truth, falsity, IsLiteral}
+use Rattle.am_gate.specs.Build.{Place, Means, Follows}
+use Rattle.am_gate.proofs.Laws.{Means-bind, Means-answer, Means-weaker, Means-truth, Follows-bind, Follows-answer, HasRoom-grown, Makes-bind, Makes-answer, Makes-weaker, Makes-count}
+use Rattle.am_gate.specs.Promises.{MakesGates}
 use Rattle.am_lit.specs.Literal.{opposite_of}
 use Rattle.am_lit.specs.Truth.{literal_value}
-use Rattle.am_gate.specs.Circuit.{Event.Mux, Net, Grows, HasRoom, truth, falsity}
-use Rattle.am_gate.specs.Build.{Place, Means, Follows}
-use Rattle.am_gate.proofs.Building.{Means-bind, Means-answer, Means-weaker, Means-truth, Follows-bind, Follows-answer}
-use Rattle.am_gate.proofs.Growth.{HasRoom-grown}
 use Rattle.am_bv.specs.declared.op.Op.TheVariants.{Udiv, Urem}
 use Rattle.am_bv.specs.Operators.{weight_of}
 use Rattle.am_blast.specs.declared.bitwise.Gate.TheVariants.{Choose}
-use Rattle.am_blast.specs.Words.{bit, reads, ReadsAs, IsLiteral, IsWord, opposites, zeros}
+use Rattle.am_blast.specs.declared.shift.Direction.TheVariants.{Up}
+use Rattle.am_blast.specs.Words.{bit, reads, ReadsAs, IsWord, opposites, zeros}
 use Rattle.am_blast.specs.Bitwise.{bitwise}
+use Rattle.am_blast.specs.Shifts.{moved}
 use Rattle.am_blast.specs.Sums.{adder}
 use Rattle.am_blast.specs.Division.{round, division_from, division, quotient, remainder}
-use Rattle.am_blast.specs.Promises.{MakesGates, IsCircuitOf}
+use Rattle.am_blast.specs.Promises.{IsCircuitOf}
 use Rattle.am_blast.proofs.Arguments.{of_two}
-use Rattle.am_blast.proofs.Making.{Makes-bind, Makes-answer, Makes-weaker, Makes-count}
 use Rattle.am_blast.proofs.Bits.{Means-choose, Makes-bitwise}
 use Rattle.am_blast.proofs.Sums.{Means-adder, Makes-adder}
-use Rattle.am_blast.proofs.Words.{bit-le, first_inside, others_inside, drop-from, reads-lt, reads-append, reads-zeros, reads-opposites, value-truth, value-falsity, All-later, All-zeros, All-opposites}
-
-no_high : (x y p z : ℕ) → x ≡ y + p * z → x < p → y ≡ x
-no_high x y p zero e l = omega arith
-no_high x y p (suc z) e l = absurd (omega arith)
-
--- the low bits of a word read as the word, where it reads a number of so many bits
-pub reads-take : (v : ℕ → Bool) (n : ℕ) (xs : List ℕ) → n ≤ length xs → reads v xs < 2 ^ n → reads v (take n xs) ≡ reads v xs
-reads-take v n xs l small =
-    no_high (reads v xs) (reads v (take n xs)) (2 ^ length (take n xs)) (reads v (drop n xs))
-    (ap (reads v) (sym (take-append-drop n xs)) ∙ reads-append v (take n xs) (drop n xs))
-    (rw (length-take-le n xs l) small)
+use Rattle.am_blast.proofs.Shifts.{All-moved, length-moved}
+use Rattle.am_blast.proofs.Words.{reads-take_small, bit-le, first_inside, others_inside, drop-from, reads-lt, reads-append, reads-zeros, reads-opposites, value-truth, value-falsity, All-later, All-zeros, All-opposites}
 
 -- the numbers of one round: x is the remainder with one more bit, y the divisor, n its opposite, s and b the sum
 -- and its carry
@@ -56,25 +47,30 @@ Means-round : (v : ℕ → Bool) (a : ℕ) (r b : List ℕ) (w : ℕ) → IsTrue
     Means v (round a r b) (IsRound v a r b)
 unfolding round
 Means-round v a r b w t lb lr small =
-    Means-bind v _ _ _ _ (Means-adder v (a ∷ low) (opposites b) truth (length-map b opposite_of ∙ sym full))
-    (λ sum s. Means-bind v _ _ _ _ (Means-choose v sum.1 sum.0 (a ∷ low) (sym s.0))
-    (λ next m. let fact = one_round (reads v sum.0) (reads v (a ∷ low)) (reads v b) (reads v (opposites b)) (2 ^ length (a ∷ low)) (literal_value v sum.1)
-    (s.1 ∙ ap (λ c. reads v (a ∷ low) + reads v (opposites b) + bit c) (value-truth v t))
-    (rw full (reads-opposites v b)) (rw s.0 at (reads-lt v sum.0)) (reads-lt v (a ∷ low)) in
-    Means-answer v _ _ (record {
+    Means-bind _ (Means-adder v word (opposites b) truth (length-map b opposite_of ∙ sym full))
+    (λ sum s. Means-bind _ (Means-choose v sum.1 sum.0 word (sym s.0))
+    (λ next m. let fact = one_round (reads v sum.0) (reads v word) (reads v b) (reads v (opposites b)) (2 ^ length word) (literal_value v sum.1)
+    (s.1 ∙ ap (λ c. reads v word + reads v (opposites b) + bit c) (value-truth v t))
+    (rw full (reads-opposites v b)) (rw s.0 at (reads-lt v sum.0)) (reads-lt v word) in
+    let left : reads v next + bit (literal_value v sum.1) * reads v b ≡ reads v word = rw m.value fact.1 in
+    Means-answer _ (record {
       bits = m.bits ∙ s.0 ∙ full;
-      taken = rw (m.value, ← low_reads) fact.1;
-      fits = rw (← low_reads) fact.0;
+      taken = left ∙ word_reads;
+      fits = fact.0 ∙ ap (leb (reads v b)) word_reads;
     })))
   where
-    low : List ℕ
-    low = take (length b - 1) r
+    word : List ℕ
+    word = moved Up a 1 r
 
-    full : length (a ∷ low) ≡ length b
-    full = ap suc (length-take-le (length b - 1) r (omega arith)) ∙ (let e : suc (length b - 1) ≡ length b = omega arith in e)
+    full : length word ≡ length b
+    full = length-moved Up a 1 r ∙ lr ∙ sym lb
 
-    low_reads : reads v low ≡ reads v r
-    low_reads = reads-take v (length b - 1) r (omega arith) (let e : length b - 1 ≡ w = omega arith in rw e small)
+    -- the top bit, which is dropped, isn't set
+    word_reads : reads v word ≡ bit (literal_value v a) + 2 * reads v r
+    word_reads =
+        let long : length r ≡ suc w = lr ∙ omega arith in
+        ap (λ n. reads v (take n (a ∷ r))) long
+        ∙ ap (λ n. bit (literal_value v a) + 2 * n) (reads-take_small v w r (omega (arith, lr)) small)
 
 -- the quotient q and the remainder r of h and y after k bits of the dividend, of which h is made
 pub record Divides (h k y q r : ℕ) : Type 0 where
@@ -108,10 +104,10 @@ pub record IsDivision (v : ℕ → Bool) (a b q r : List ℕ) : Type 0 where
 Means-division_from : (v : ℕ → Bool) (a xs q r b : List ℕ) (w : ℕ) → IsTrue (v 0) → length b ≡ w + 1 → length a + length xs ≤ w → IsDivision v a b q r →
     Means v (division_from xs q r b) (λ o. IsDivision v (reverse xs ++ a) b o.0 o.1)
 unfolding division_from
-Means-division_from v a [] q r b w t lb l d = Means-answer v _ _ d
+Means-division_from v a [] q r b w t lb l d = Means-answer _ d
 Means-division_from v a (x ∷ xs) q r b w t lb l d =
-    Means-bind v _ _ _ _ (Means-round v x r b w t lb (d.remainder ∙ lb) small)
-    (λ one o. Means-weaker v _ _ _
+    Means-bind _ (Means-round v x r b w t lb (d.remainder ∙ lb) small)
+    (λ one o. Means-weaker
     (Means-division_from v (x ∷ a) xs (one.0 ∷ q) one.1 b w t lb (omega arith) (record {
       quotient = ap suc d.quotient;
       remainder = o.bits;
@@ -127,7 +123,7 @@ Means-division_from v a (x ∷ xs) q r b w t lb l d =
 pub Means-division : (v : ℕ → Bool) (w : ℕ) (xs ys : List ℕ) → IsTrue (v 0) → length xs ≡ w → length ys ≡ w →
     Means v (division xs ys) (λ o. (length o.0 ≡ w) × (length o.1 ≡ w + 1) × Divides (reads v xs) w (reads v ys) (reads v o.0) (reads v o.1))
 Means-division v w xs ys t lx ly =
-    Means-weaker v _ _ _
+    Means-weaker
     (Means-division_from v [] (reverse xs) [] (zeros (length ys + 1)) divisor w t (omega (arith, one_more)) (rw length-reverse (omega (arith, lx))) (record {
       quotient = refl;
       remainder = length-replicate (length ys + 1) falsity ∙ rw (one_more, ly) refl;
@@ -156,46 +152,44 @@ remainder-is h k (suc y) q r d = sym (rw eqb-suc-zero (ap (λ n. n % suc y) d.su
 pub Means-quotient : (v : ℕ → Bool) (w : ℕ) (xs ys : List ℕ) → length xs ≡ w → length ys ≡ w →
     Means v (quotient xs ys) (ReadsAs v w (if reads v ys == 0 then 2 ^ w - 1 else reads v xs / reads v ys))
 unfolding quotient
-Means-quotient v w xs ys lx ly = Means-truth v _ _ (λ t.
-    Means-bind v _ _ _ _ (Means-division v w xs ys t lx ly)
-    (λ o d. Means-answer v _ _ (record { bits = d.0; value = quotient-is (reads v xs) w (reads v ys) (reads v o.0) (reads v o.1) d.2 })))
+Means-quotient v w xs ys lx ly = Means-truth (λ t.
+    Means-bind _ (Means-division v w xs ys t lx ly)
+    (λ o d. Means-answer _ (record { bits = d.0; value = quotient-is (reads v xs) w (reads v ys) (reads v o.0) (reads v o.1) d.2 })))
 
 pub Means-remainder : (v : ℕ → Bool) (w : ℕ) (xs ys : List ℕ) → length xs ≡ w → length ys ≡ w →
     Means v (remainder xs ys) (ReadsAs v w (if reads v ys == 0 then reads v xs else reads v xs % reads v ys))
 unfolding remainder
-Means-remainder v w xs ys lx ly = Means-truth v _ _ (λ t.
-    Means-bind v _ _ _ _ (Means-division v w xs ys t lx ly)
+Means-remainder v w xs ys lx ly = Means-truth (λ t.
+    Means-bind _ (Means-division v w xs ys t lx ly)
     (λ o d. let small : reads v o.1 < 2 ^ length ys = rw ly (omega (arith, d.2.bound, rw lx at (reads-lt v xs))) in
-    Means-answer v _ _ (record {
+    Means-answer _ (record {
       bits = length-take-le (length ys) o.1 (omega (arith, d.1)) ∙ ly;
-      value = reads-take v (length ys) o.1 (omega (arith, d.1)) small ∙ remainder-is (reads v xs) w (reads v ys) (reads v o.0) (reads v o.1) d.2;
+      value = reads-take_small v (length ys) o.1 (omega (arith, d.1)) small ∙ remainder-is (reads v xs) w (reads v ys) (reads v o.0) (reads v o.1) d.2;
     })))
 
-pub All-moved : (n a k : ℕ) (r : List ℕ) → IsLiteral n a → All (IsLiteral n) r → All (IsLiteral n) (a ∷ take k r)
-All-moved n a k r ha hr = All-cons (IsLiteral n) a (take k r) ha (All-take (IsLiteral n) k r hr)
-
-pub Makes-round : (a : ℕ) (r b : List ℕ) (p : Place) → 0 < p.next → 0 < length b → length r ≡ length b → IsLiteral p.next a → All (IsLiteral p.next) r → All (IsLiteral p.next) b →
+-- the gates of one round of a division
+pub Makes-round : (a : ℕ) (r b : List ℕ) (p : Place) → 0 < p.next → length r ≡ length b → IsLiteral p.next a → All (IsLiteral p.next) r → All (IsLiteral p.next) b →
     MakesGates (round a r b) (4 * length b) (λ vars o. IsLiteral vars o.0 × IsWord (length b) vars o.1) p
 unfolding round
-Makes-round a r b p h some lr ha hr hb =
-    Makes-bind _ _ p (3 * length b) (length b) _ _ _
-    (subst (λ n. MakesGates (adder (a ∷ low) (opposites b) truth) (3 * n) (λ vars s. IsWord n vars s.0 × IsLiteral vars s.1) p) full
-    (Makes-adder (a ∷ low) (opposites b) truth p (length-map b opposite_of ∙ sym full) moved (All-opposites p.next b hb) h))
+Makes-round a r b p h lr ha hr hb =
+    Makes-bind _ (length b)
+    (subst (λ n. MakesGates (adder word (opposites b) truth) (3 * n) (λ vars s. IsWord n vars s.0 × IsLiteral vars s.1) p) full
+    (Makes-adder word (opposites b) truth p (length-map b opposite_of ∙ sym full) inside (All-opposites p.next b hb) h))
     (omega arith)
-    (λ sum q l s. Makes-bind _ _ q (length b) 0 _ _ _
-    (subst (λ n. MakesGates (bitwise (Mux sum.1) sum.0 (a ∷ low)) n (IsWord n) q) s.0.bits
-    (Makes-bitwise (Choose sum.1) sum.0 (a ∷ low) q (full ∙ sym s.0.bits) s.1 s.0.inside (All-later p.next q.next (a ∷ low) (omega arith) moved)))
+    (λ sum q l s. Makes-bind _ 0
+    (subst (λ n. MakesGates (bitwise (Choose sum.1) sum.0 word) n (IsWord n) q) s.0.bits
+    (Makes-bitwise (Choose sum.1) sum.0 word q (full ∙ sym s.0.bits) s.1 s.0.inside (All-later p.next q.next word (omega arith) inside)))
     (omega arith)
-    (λ next t k m. Makes-answer _ t _ (omega (arith, s.1, k), m)))
+    (λ next t k m. Makes-answer _ (omega (arith, s.1, k), m)))
   where
-    low : List ℕ
-    low = take (length b - 1) r
+    word : List ℕ
+    word = moved Up a 1 r
 
-    full : length (a ∷ low) ≡ length b
-    full = ap suc (length-take-le (length b - 1) r (omega arith)) ∙ (let e : suc (length b - 1) ≡ length b = omega arith in e)
+    full : length word ≡ length b
+    full = length-moved Up a 1 r ∙ lr
 
-    moved : All (IsLiteral p.next) (a ∷ low)
-    moved = All-moved p.next a (length b - 1) r ha hr
+    inside : All (IsLiteral p.next) word
+    inside = All-moved Up p.next a 1 r ha hr
 
 -- what is left of the room for a division, past the round of bit i from the top
 pub room-round : (w i k : ℕ) {a b : Net} → i < w → Grows k a b → HasRoom ((w - i) * k) a → HasRoom ((w - (i + 1)) * k) b
@@ -203,16 +197,16 @@ room-round w i k {a} l grows room =
     let e : w - i ≡ suc (w - (i + 1)) = omega arith in
     HasRoom-grown ((w - (i + 1)) * k) grows (subst (λ n. HasRoom (n * k) a) e room) (omega arith)
 
-pub Makes-division_from : (xs q r b : List ℕ) (p : Place) → 0 < p.next → 0 < length b → length r ≡ length b →
+pub Makes-division_from : (xs q r b : List ℕ) (p : Place) → 0 < p.next → length r ≡ length b →
     All (IsLiteral p.next) xs → All (IsLiteral p.next) q → All (IsLiteral p.next) r → All (IsLiteral p.next) b →
     MakesGates (division_from xs q r b) (length xs * (4 * length b)) (λ vars o. IsWord (length xs + length q) vars o.0 × IsWord (length b) vars o.1) p
 unfolding division_from
-Makes-division_from [] q r b p h some lr hx hq hr hb =
-    Makes-count _ p 0 _ _ (Makes-answer _ p _ (record { bits = omega arith; inside = hq }, record { bits = lr; inside = hr })) (omega arith)
-Makes-division_from (x ∷ xs) q r b p h some lr hx hq hr hb =
-    Makes-bind _ _ p (4 * length b) (length xs * (4 * length b)) _ _ _ (Makes-round x r b p h some lr (first_inside p.next x xs hx) hr hb) (omega arith)
-    (λ one s l m. Makes-weaker _ s _ _ _
-    (Makes-division_from xs (one.0 ∷ q) one.1 b s (omega arith) some m.1.bits (others_inside p.next s.next x xs (omega arith) hx)
+Makes-division_from [] q r b p h lr hx hq hr hb =
+    Makes-count (Makes-answer _ (record { bits = omega arith; inside = hq }, record { bits = lr; inside = hr })) (omega arith)
+Makes-division_from (x ∷ xs) q r b p h lr hx hq hr hb =
+    Makes-bind _ (length xs * (4 * length b)) (Makes-round x r b p h lr (first_inside p.next x xs hx) hr hb) (omega arith)
+    (λ one s l m. Makes-weaker
+    (Makes-division_from xs (one.0 ∷ q) one.1 b s (omega arith) m.1.bits (others_inside p.next s.next x xs (omega arith) hx)
     (All-cons (IsLiteral s.next) one.0 q m.0 (All-later p.next s.next q (omega arith) hq)) m.1.inside (All-later p.next s.next b (omega arith) hb))
     (λ n o k f. (record { bits = f.0.bits ∙ (let e : length xs + suc (length q) ≡ suc (length xs) + length q = omega arith in e); inside = f.0.inside }, f.1)))
 
@@ -220,12 +214,13 @@ All-reverse : (n : ℕ) (xs : List ℕ) → All (IsLiteral n) xs → All (IsLite
 All-reverse n xs h = λ k d l. let inside : k < length xs = rw length-reverse at l in
     rw (get_or-reverse xs k d inside) (h (length xs - 1 - k) d (omega arith))
 
+-- the gates of a division
 pub Makes-division : (w : ℕ) (xs ys : List ℕ) (p : Place) → 0 < p.next → IsWord w p.next xs → IsWord w p.next ys →
     MakesGates (division xs ys) (weight_of w Udiv) (λ vars o. IsWord w vars o.0 × IsWord (w + 1) vars o.1) p
 Makes-division w xs ys p pos hx hy =
-    Makes-count _ p (length (reverse xs) * (4 * length divisor)) _ _
-    (Makes-weaker _ p _ _ _
-    (Makes-division_from (reverse xs) [] (zeros (length ys + 1)) divisor p pos (omega (arith, one_more)) (length-replicate (length ys + 1) falsity ∙ rw (one_more, hy.bits) refl)
+    Makes-count
+    (Makes-weaker
+    (Makes-division_from (reverse xs) [] (zeros (length ys + 1)) divisor p pos (length-replicate (length ys + 1) falsity ∙ rw (one_more, hy.bits) refl)
     (All-reverse p.next xs hx.inside) (All-nil (IsLiteral p.next)) (All-zeros p.next (length ys + 1) pos) (All-append (IsLiteral p.next) ys (falsity ∷ []) hy.inside (All-zeros p.next 1 pos)))
     (λ n o k f. (record { bits = f.0.bits ∙ rw (length-reverse, hx.bits) (omega arith); inside = f.0.inside }, record { bits = f.1.bits ∙ one_more; inside = f.1.inside })))
     (rw (length-reverse, hx.bits, one_more) (omega arith))
@@ -240,7 +235,7 @@ pub Makes-quotient : (w : ℕ) (xs ys : List ℕ) (p : Place) → 0 < p.next →
     MakesGates (quotient xs ys) (weight_of w Udiv) (IsWord w) p
 unfolding quotient
 Makes-quotient w xs ys p pos hx hy =
-    Makes-bind _ _ p (weight_of w Udiv) 0 _ _ _ (Makes-division w xs ys p pos hx hy) (omega arith) (λ o q l f. Makes-answer _ q _ f.0)
+    Makes-bind _ 0 (Makes-division w xs ys p pos hx hy) (omega arith) (λ o q l f. Makes-answer _ f.0)
 
 -- the low bits of a word that has one bit more
 pub IsWord-low : (w k n : ℕ) (xs : List ℕ) → k ≡ w → IsWord (w + 1) n xs → IsWord w n (take k xs)
@@ -250,21 +245,24 @@ pub Makes-remainder : (w : ℕ) (xs ys : List ℕ) (p : Place) → 0 < p.next �
     MakesGates (remainder xs ys) (weight_of w Urem) (IsWord w) p
 unfolding remainder
 Makes-remainder w xs ys p pos hx hy =
-    Makes-bind _ _ p (weight_of w Udiv) 0 _ _ _ (Makes-division w xs ys p pos hx hy) (omega arith)
-    (λ o q l f. Makes-answer _ q _ (IsWord-low w (length ys) q.next o.1 hy.bits f.1))
+    Makes-bind _ 0 (Makes-division w xs ys p pos hx hy) (omega arith)
+    (λ o q l f. Makes-answer _ (IsWord-low w (length ys) q.next o.1 hy.bits f.1))
 
+-- the circuit of the quotient
 pub udiv-circuit : (w : ℕ) → 1 ≤ w → IsCircuitOf w Udiv
 udiv-circuit w one = of_two w Udiv refl (λ v a b la lb. Means-quotient v w a b la lb) (λ p a b pos ha hb. Makes-quotient w a b p pos ha hb)
 
+-- the circuit of the remainder
 pub urem-circuit : (w : ℕ) → 1 ≤ w → IsCircuitOf w Urem
 urem-circuit w one = of_two w Urem refl (λ v a b la lb. Means-remainder v w a b la lb) (λ p a b pos ha hb. Makes-remainder w a b p pos ha hb)
 
+-- a round: the difference, and then the choice
 pub Follows-round : (a : ℕ) (r b next : List ℕ) (difference : List ℕ × ℕ) (n m end : Net) →
-    Follows (adder (a ∷ take (length b - 1) r) (opposites b) truth) n difference m →
-    Follows (bitwise (Mux difference.1) difference.0 (a ∷ take (length b - 1) r)) m next end →
+    Follows (adder (moved Up a 1 r) (opposites b) truth) n difference m →
+    Follows (bitwise (Choose difference.1) difference.0 (moved Up a 1 r)) m next end →
     Follows (round a r b) n (difference.1, next) end
 unfolding round
-Follows-round a r b next difference n m end one two = Follows-bind _ _ _ _ _ _ _ one (Follows-bind _ _ _ _ _ _ _ two (Follows-answer _ _))
+Follows-round a r b next difference n m end one two = Follows-bind _ one (Follows-bind _ two Follows-answer)
 
 -- one more bit of a division, where the quotient's bits so far were put down from the top
 pub Follows-division_from_at : (i x : ℕ) (xs q r b : List ℕ) (one : ℕ × List ℕ) (n m end : Net) (o : List ℕ × List ℕ) →
@@ -273,16 +271,19 @@ pub Follows-division_from_at : (i x : ℕ) (xs q r b : List ℕ) (one : ℕ × L
     Follows (division_from (drop i xs) (reverse q) r b) n o end
 unfolding division_from
 Follows-division_from_at i x xs q r b one n m end o l e first rest =
-    rw (drop-from i x xs l e) (Follows-bind _ _ _ _ _ _ _ first (rw (reverse-append q (one.0 ∷ [])) at rest))
+    rw (drop-from i x xs l e) (Follows-bind _ first (rw (reverse-append q (one.0 ∷ [])) at rest))
 
+-- a division with no more rounds makes nothing
 pub Follows-division_from_end : (i : ℕ) (xs q r b : List ℕ) (n : Net) → length xs ≤ i → Follows (division_from (drop i xs) q r b) n (q, r) n
 unfolding division_from
-Follows-division_from_end i xs q r b n l = rw (drop_all i xs l) (Follows-answer (q, r) n)
+Follows-division_from_end i xs q r b n l = rw (drop_all i xs l) Follows-answer
 
+-- the quotient of a division
 pub Follows-quotient : (xs ys : List ℕ) (o : List ℕ × List ℕ) (n m : Net) → Follows (division xs ys) n o m → Follows (quotient xs ys) n o.0 m
 unfolding quotient
-Follows-quotient xs ys o n m h = Follows-bind _ _ _ _ _ _ _ h (Follows-answer _ _)
+Follows-quotient xs ys o n m h = Follows-bind _ h Follows-answer
 
+-- the remainder of a division
 pub Follows-remainder : (xs ys : List ℕ) (o : List ℕ × List ℕ) (n m : Net) → Follows (division xs ys) n o m → Follows (remainder xs ys) n (take (length ys) o.1) m
 unfolding remainder
-Follows-remainder xs ys o n m h = Follows-bind _ _ _ _ _ _ _ h (Follows-answer _ _)
+Follows-remainder xs ys o n m h = Follows-bind _ h Follows-answer

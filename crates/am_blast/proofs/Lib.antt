@@ -1,9 +1,7 @@
 pub mod Words
 pub mod Giving
 pub mod Arguments
-pub mod Making
 pub mod Bits
-pub mod Steps
 pub mod Equality
 pub mod Shifts
 pub mod Logic
@@ -14,3 +12,4 @@ pub mod Sums
 pub mod Comparisons
 pub mod Products
 pub mod Division
+pub mod Laws

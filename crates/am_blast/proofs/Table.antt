@@ -11,6 +11,7 @@ use Rattle.am_blast.proofs.Division.{udiv-circuit, urem-circuit}
 use Rattle.am_blast.proofs.Equality.{eq-circuit, ite-circuit}
 use Rattle.am_blast.proofs.Shifts.{shl-circuit, lshr-circuit, ashr-circuit}
 
+-- each operator's circuit is one of the operator
 pub circuit : (w : ℕ) → 1 ≤ w → (op : Op) → IsCircuitOf w op
 circuit w one Not = not-circuit w
 circuit w one Neg = neg-circuit w one

@@ -1,16 +1,20 @@
 -- Division, one bit of the dividend after another, from the top.
-use Rattle.std.specs.Prelude.{ℕ, ◌+◌, ◌-◌, List, [], ◌∷◌, ◌++◌, length, take, reverse}
-use Rattle.am_gate.specs.Circuit.{Event.Mux, truth, falsity}
+use Rattle.std.specs.Prelude.{ℕ, ◌+◌, List, [], ◌∷◌, ◌++◌, length, take, reverse}
+use Rattle.am_gate.specs.Circuit.{truth, falsity}
 use Rattle.am_gate.specs.Build.{Step, ◌>>=◌, answer}
+use Rattle.am_blast.specs.declared.bitwise.Gate.TheVariants.{Choose}
+use Rattle.am_blast.specs.declared.shift.Direction.TheVariants.{Up}
 use Rattle.am_blast.specs.Words.{opposites, zeros}
 use Rattle.am_blast.specs.Bitwise.{bitwise}
+use Rattle.am_blast.specs.Shifts.{moved}
 use Rattle.am_blast.specs.Sums.{adder}
 
--- one bit of the quotient and the next remainder, where a is the dividend's next bit
+-- one bit of the quotient and the next remainder: the remainder so far is moved up by the dividend's next
+-- bit a, and the divisor b is taken away where it fits
 unfoldable pub round : ℕ → List ℕ → List ℕ → Step (ℕ × List ℕ)
 round a r b = do
-  difference ← adder (a ∷ take (length b - 1) r) (opposites b) truth
-  next ← bitwise (Mux difference.1) difference.0 (a ∷ take (length b - 1) r)
+  difference ← adder (moved Up a 1 r) (opposites b) truth
+  next ← bitwise (Choose difference.1) difference.0 (moved Up a 1 r)
   answer (difference.1, next)
 
 -- the quotient and the remainder after the dividend's bits from the top, of which q and r are those so far

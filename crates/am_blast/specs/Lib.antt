@@ -1,12 +1,9 @@
 pub mod Words
 pub mod Bitwise
-pub mod Gates
 pub mod Sums
 pub mod Comparisons
-pub mod Relations
 pub mod Products
-pub mod Division
 pub mod Shifts
-pub mod Directions
+pub mod Division
 pub mod Circuits
 pub mod Promises

@@ -1,8 +1,8 @@
 -- Words of literals, least bit first, and the numbers that they read.
-use Rattle.std.specs.Prelude.{ℕ, zero, suc, ◌≡◌, ◌+◌, ◌-◌, ◌*◌, ◌/◌, ◌%◌, ◌<◌, Bool, if◌then◌else◌, ◌==◌, List, [], ◌∷◌, ◌++◌, All, map, length, take, drop, replicate}
-use Rattle.am_lit.specs.Literal.{variable_of, opposite_of}
+use Rattle.std.specs.Prelude.{ℕ, zero, suc, ◌≡◌, ◌+◌, ◌-◌, ◌*◌, ◌/◌, ◌%◌, Bool, if◌then◌else◌, ◌==◌, List, [], ◌∷◌, ◌++◌, All, map, length, take, drop, replicate}
+use Rattle.am_lit.specs.Literal.{opposite_of}
 use Rattle.am_lit.specs.Truth.{literal_value}
-use Rattle.am_gate.specs.Circuit.{truth, falsity}
+use Rattle.am_gate.specs.Circuit.{truth, falsity, IsLiteral}
 
 abbrev pub bit : Bool → ℕ
 bit b = if b then 1 else 0
@@ -17,14 +17,16 @@ pub record ReadsAs (v : ℕ → Bool) (w n : ℕ) (word : List ℕ) : Type 0 whe
   pub bits : length word ≡ w
   pub value : reads v word ≡ n
 
--- a literal of a variable below a number
-abbrev pub IsLiteral : ℕ → ℕ → Type 0
-IsLiteral vars l = variable_of l < vars
-
 -- a word of w literals of variables below a number
 pub record IsWord (w vars : ℕ) (word : List ℕ) : Type 0 where
   pub bits : length word ≡ w
   pub inside : All (IsLiteral vars) word
+
+-- two words of as many literals, of variables below a number
+pub record AreWords (vars : ℕ) (a b : List ℕ) : Type 0 where
+  pub lengths : length b ≡ length a
+  pub first : All (IsLiteral vars) a
+  pub second : All (IsLiteral vars) b
 
 -- the opposite of each literal
 abbrev pub opposites : List ℕ → List ℕ

@@ -1,21 +1,23 @@
-ghost use Rattle.std.specs.Prelude.{◌≡◌, ℕ, IfOk, All, length};
-ghost use Rattle.am_gate.specs.Circuit.{IsIn, HasRoom, Begins};
-ghost use Rattle.am_gate.specs.Build.{ask};
-ghost use Rattle.am_blast.specs.Words.{IsLiteral, IsWord};
-ghost use Rattle.am_blast.specs.Bitwise.{bitwise, disjunction};
-ghost use Rattle.am_blast.specs.Gates.{gate_of, IsOver};
-ghost use Rattle.am_blast.specs.Promises.{Gives};
+//! Gates at each bit of two words.
 
-use crate::word::{WordLits, opposites};
+ghost use Rattle.std.specs.Prelude.{IfOk, length};
+ghost use Rattle.am_gate.specs.Circuit.{IsLiteral, HasRoom, Begins};
+ghost use Rattle.am_blast.specs.Words.{AreWords, IsWord};
+ghost use Rattle.am_blast.specs.Bitwise.{bitwise, either, gate_of, IsOver};
+ghost use Rattle.am_gate.specs.Promises.{Gives};
+
+use crate::word::WordLits;
 use am_gate::Circuit;
 use am_lit::Lit;
 use std::alloc::{AllocError, Global};
 
 /// A gate of two literals.
 #[derive(Clone, Copy)]
-pub(crate) enum Gate {
+pub enum Gate {
     /// Whether both are true.
     Both,
+    /// Whether at least one is true.
+    Either,
     /// Whether exactly one is true.
     Differ,
     /// The first where this literal is true, else the second.
@@ -26,33 +28,47 @@ impl Gate {
     fn make(&self, circuit: &mut Circuit, a: Lit, b: Lit) -> Result<Lit, AllocError>
         requires room { HasRoom 1 circuit.old }
         requires gate { IsOver circuit.old.vars self.now }
-        requires first { IsIn circuit.old a }
-        requires second { IsIn circuit.old b }
-        ensures ok { IfOk result (λ r. Gives (ask (gate_of self.now a b)) 1 IsLiteral circuit.old r circuit.new) }
+        requires first { IsLiteral circuit.old.vars a }
+        requires second { IsLiteral circuit.old.vars b }
+        ensures ok { IfOk result (λ r. Gives (gate_of self.now a b) 1 IsLiteral circuit.old r circuit.new) }
         ensures begins { Begins circuit.old circuit.new }
     {
         match self {
             Gate::Both => circuit.and(a, b),
+            Gate::Either => either(circuit, a, b),
             Gate::Differ => circuit.xor(a, b),
             Gate::Choose(c) => circuit.mux(*c, a, b),
         }
     }
 }
 
-/// The gate at each bit of two words.
-pub(crate) fn at_each_bit(
+/// At least one of two literals.
+pub(crate) fn either(circuit: &mut Circuit, a: Lit, b: Lit) -> Result<Lit, AllocError>
+    requires room { HasRoom 1 circuit.old }
+    requires first { IsLiteral circuit.old.vars a }
+    requires second { IsLiteral circuit.old.vars b }
+    ensures ok { IfOk result (λ r. Gives (either a b) 1 IsLiteral circuit.old r circuit.new) }
+    ensures begins { Begins circuit.old circuit.new }
+{
+    let neither = circuit.and(a.opposite(), b.opposite())?;
+    Ok(neither.opposite())
+}
+
+/// The gate at each bit of two words, from bit 0. After want of memory the circuit begins with its earlier
+/// variables and clauses.
+pub fn at_each_bit(
     alloc: Global,
     circuit: &mut Circuit,
     gate: Gate,
     a: &[Lit],
     b: &[Lit],
 ) -> Result<WordLits, AllocError>
-    requires lengths { length b.now ≡ length a.now }
+    requires words { AreWords circuit.old.vars a.now b.now }
     requires room { HasRoom (length a.now) circuit.old }
     requires gate { IsOver circuit.old.vars gate }
-    requires first { All (IsIn circuit.old) a.now }
-    requires second { All (IsIn circuit.old) b.now }
-    ensures ok { IfOk result (λ r. Gives (bitwise (gate_of gate) a.now b.now) (length a.now) (IsWord (length a.now)) circuit.old r circuit.new) }
+    ensures ok { IfOk result (λ r.
+        Gives (bitwise gate a.now b.now) (length a.now)
+        (IsWord (length a.now)) circuit.old r circuit.new) }
     ensures begins { Begins circuit.old circuit.new }
 {
     let mut word = WordLits::new(alloc);
@@ -60,32 +76,5 @@ pub(crate) fn at_each_bit(
         let literal = gate.make(circuit, a[i], b[i])?;
         word.push(literal)?;
     }
-    Ok(word)
-}
-
-/// At least one of both, at each bit.
-pub(crate) fn disjunction(
-    alloc: Global,
-    circuit: &mut Circuit,
-    a: &[Lit],
-    b: &[Lit],
-) -> Result<WordLits, AllocError>
-    requires lengths { length b.now ≡ length a.now }
-    requires room { HasRoom (length a.now) circuit.old }
-    requires first { All (IsIn circuit.old) a.now }
-    requires second { All (IsIn circuit.old) b.now }
-    ensures ok { IfOk result (λ r. Gives (disjunction a.now b.now) (length a.now) (IsWord (length a.now)) circuit.old r circuit.new) }
-    ensures begins { Begins circuit.old circuit.new }
-{
-    let not_a = opposites(alloc, a)?;
-    let not_b = opposites(alloc, b)?;
-    let neither = at_each_bit(
-        alloc,
-        circuit,
-        Gate::Both,
-        not_a.as_slice(),
-        not_b.as_slice(),
-    )?;
-    let word = opposites(alloc, neither.as_slice())?;
     Ok(word)
 }

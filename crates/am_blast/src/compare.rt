@@ -1,8 +1,10 @@
+//! The order of words, unsigned and signed.
+
 ghost use Rattle.std.specs.Prelude.{◌≡◌, ◌*◌, IfOk, All, length};
-ghost use Rattle.am_gate.specs.Circuit.{IsIn, HasRoom, Begins};
-ghost use Rattle.am_blast.specs.Words.{IsLiteral, sign_turned};
+ghost use Rattle.am_gate.specs.Circuit.{IsLiteral, HasRoom, Begins};
+ghost use Rattle.am_blast.specs.Words.{AreWords, sign_turned};
 ghost use Rattle.am_blast.specs.Comparisons.{below, most};
-ghost use Rattle.am_blast.specs.Promises.{Gives};
+ghost use Rattle.am_gate.specs.Promises.{Gives};
 
 use crate::sum::add_words;
 use crate::word::{WordLits, copied, opposites};
@@ -17,11 +19,10 @@ pub(crate) fn is_below(
     a: &[Lit],
     b: &[Lit],
 ) -> Result<Lit, AllocError>
-    requires lengths { length b.now ≡ length a.now }
+    requires words { AreWords circuit.old.vars a.now b.now }
     requires room { HasRoom (3 * length a.now) circuit.old }
-    requires first { All (IsIn circuit.old) a.now }
-    requires second { All (IsIn circuit.old) b.now }
-    ensures ok { IfOk result (λ r. Gives (below a.now b.now) (3 * length a.now) IsLiteral circuit.old r circuit.new) }
+    ensures ok { IfOk result (λ r.
+        Gives (below a.now b.now) (3 * length a.now) IsLiteral circuit.old r circuit.new) }
     ensures begins { Begins circuit.old circuit.new }
 {
     let carry = is_at_most(alloc, circuit, b, a)?;
@@ -35,11 +36,10 @@ pub(crate) fn is_at_most(
     a: &[Lit],
     b: &[Lit],
 ) -> Result<Lit, AllocError>
-    requires lengths { length b.now ≡ length a.now }
+    requires words { AreWords circuit.old.vars a.now b.now }
     requires room { HasRoom (3 * length a.now) circuit.old }
-    requires first { All (IsIn circuit.old) a.now }
-    requires second { All (IsIn circuit.old) b.now }
-    ensures ok { IfOk result (λ r. Gives (most a.now b.now) (3 * length a.now) IsLiteral circuit.old r circuit.new) }
+    ensures ok { IfOk result (λ r.
+        Gives (most a.now b.now) (3 * length a.now) IsLiteral circuit.old r circuit.new) }
     ensures begins { Begins circuit.old circuit.new }
 {
     let not_a = opposites(alloc, a)?;

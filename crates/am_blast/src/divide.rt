@@ -1,20 +1,23 @@
+//! Quotients and remainders.
+
 ghost use Rattle.std.specs.Prelude.{◌≡◌, ◌+◌, ◌*◌, ◌<◌, IfOk, All, length};
-ghost use Rattle.am_gate.specs.Circuit.{IsIn, HasRoom, Begins};
+ghost use Rattle.am_gate.specs.Circuit.{IsLiteral, HasRoom, Begins};
 ghost use Rattle.am_bv.specs.Operators.{weight_of};
 ghost use Rattle.am_bv.specs.declared.op.Op.TheVariants.{Udiv, Urem};
-ghost use Rattle.am_blast.specs.Words.{IsLiteral, IsWord};
+ghost use Rattle.am_blast.specs.Words.{AreWords, IsWord};
 ghost use Rattle.am_blast.specs.Division.{round, division, quotient, remainder};
-ghost use Rattle.am_blast.specs.Promises.{Gives};
+ghost use Rattle.am_gate.specs.Promises.{Gives};
 
 use crate::bitwise::{Gate, at_each_bit};
-use crate::sum::add_words;
-use crate::word::{WordLits, copied, opposites, padded_below, reversed};
+use crate::shift::{Direction, moved};
+use crate::sum::{add_words, zeros};
+use crate::word::{WordLits, copied, opposites, reversed};
 use am_gate::Circuit;
 use am_lit::Lit;
 use std::alloc::{AllocError, Global};
 
 /// One bit of the quotient and the next remainder, from the dividend's next bit and the remainder so far.
-#[tactic(auto, using(crate::proofs::Steps::begins))]
+#[tactic(auto, using(am_gate::proofs::Laws::begins))]
 fn round(
     alloc: Global,
     circuit: &mut Circuit,
@@ -23,16 +26,16 @@ fn round(
     divisor: &[Lit],
 ) -> Result<(Lit, WordLits), AllocError>
     requires some { 0 < length divisor.now }
-    requires lengths { length remainder.now ≡ length divisor.now }
+    requires words { AreWords circuit.old.vars divisor.now remainder.now }
     requires room { HasRoom (4 * length divisor.now) circuit.old }
-    requires bit { IsIn circuit.old bit }
-    requires first { All (IsIn circuit.old) remainder.now }
-    requires second { All (IsIn circuit.old) divisor.now }
-    ensures ok { IfOk result (λ r. Gives (round bit remainder.now divisor.now) (4 * length divisor.now) (λ vars o. IsLiteral vars o.0 × IsWord (length divisor.now) vars o.1) circuit.old r circuit.new) }
+    requires bit { IsLiteral circuit.old.vars bit }
+    ensures ok { IfOk result (λ r.
+        Gives (round bit remainder.now divisor.now) (4 * length divisor.now)
+        (λ vars o. IsLiteral vars o.0 × IsWord (length divisor.now) vars o.1) circuit.old r circuit.new) }
     ensures begins { Begins circuit.old circuit.new }
 {
     let truth = circuit.truth();
-    let moved = padded_below(alloc, bit, 1, &remainder[..divisor.len() - 1])?;
+    let moved = moved(alloc, &Direction::Up, bit, 1, remainder)?;
     let negated = opposites(alloc, divisor)?;
     let (difference, carry) = add_words(
         alloc,
@@ -52,18 +55,19 @@ fn round(
 }
 
 /// The quotient of two words, and the remainder, whose top bit is one more than the words have.
-#[tactic(auto, using(crate::proofs::Steps::begins))]
+#[tactic(auto, using(am_gate::proofs::Laws::begins))]
 fn division(
     alloc: Global,
     circuit: &mut Circuit,
     a: &[Lit],
     b: &[Lit],
 ) -> Result<(WordLits, WordLits), AllocError>
-    requires lengths { length b.now ≡ length a.now }
+    requires words { AreWords circuit.old.vars a.now b.now }
     requires room { HasRoom (weight_of (length a.now) Udiv) circuit.old }
-    requires first { All (IsIn circuit.old) a.now }
-    requires second { All (IsIn circuit.old) b.now }
-    ensures ok { IfOk result (λ r. Gives (division a.now b.now) (weight_of (length a.now) Udiv) (λ vars o. IsWord (length a.now) vars o.0 × IsWord (length a.now + 1) vars o.1) circuit.old r circuit.new) }
+    ensures ok { IfOk result (λ r.
+        Gives (division a.now b.now) (weight_of (length a.now) Udiv)
+        (λ vars o. IsWord (length a.now) vars o.0 × IsWord (length a.now + 1) vars o.1)
+        circuit.old r circuit.new) }
     ensures begins { Begins circuit.old circuit.new }
 {
     let falsity = circuit.truth().opposite();
@@ -71,7 +75,7 @@ fn division(
     divisor.push(falsity)?;
     let dividend = reversed(alloc, a)?;
     let mut from_top = WordLits::new(alloc);
-    let mut remainder = padded_below(alloc, falsity, divisor.len(), &[])?;
+    let mut remainder = zeros(alloc, circuit, divisor.len())?;
     for l in dividend.as_slice() {
         let (bit, next) = round(alloc, circuit, *l, remainder.as_slice(), divisor.as_slice())?;
         from_top.push(bit)?;
@@ -88,11 +92,11 @@ pub(crate) fn quotient(
     a: &[Lit],
     b: &[Lit],
 ) -> Result<WordLits, AllocError>
-    requires lengths { length b.now ≡ length a.now }
+    requires words { AreWords circuit.old.vars a.now b.now }
     requires room { HasRoom (weight_of (length a.now) Udiv) circuit.old }
-    requires first { All (IsIn circuit.old) a.now }
-    requires second { All (IsIn circuit.old) b.now }
-    ensures ok { IfOk result (λ r. Gives (quotient a.now b.now) (weight_of (length a.now) Udiv) (IsWord (length a.now)) circuit.old r circuit.new) }
+    ensures ok { IfOk result (λ r.
+        Gives (quotient a.now b.now) (weight_of (length a.now) Udiv)
+        (IsWord (length a.now)) circuit.old r circuit.new) }
     ensures begins { Begins circuit.old circuit.new }
 {
     let (quotient, _) = division(alloc, circuit, a, b)?;
@@ -106,11 +110,11 @@ pub(crate) fn remainder(
     a: &[Lit],
     b: &[Lit],
 ) -> Result<WordLits, AllocError>
-    requires lengths { length b.now ≡ length a.now }
+    requires words { AreWords circuit.old.vars a.now b.now }
     requires room { HasRoom (weight_of (length a.now) Urem) circuit.old }
-    requires first { All (IsIn circuit.old) a.now }
-    requires second { All (IsIn circuit.old) b.now }
-    ensures ok { IfOk result (λ r. Gives (remainder a.now b.now) (weight_of (length a.now) Urem) (IsWord (length a.now)) circuit.old r circuit.new) }
+    ensures ok { IfOk result (λ r.
+        Gives (remainder a.now b.now) (weight_of (length a.now) Urem)
+        (IsWord (length a.now)) circuit.old r circuit.new) }
     ensures begins { Begins circuit.old circuit.new }
 {
     let (_, remainder) = division(alloc, circuit, a, b)?;

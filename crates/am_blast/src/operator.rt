@@ -1,11 +1,13 @@
+//! The circuit of each operator.
+
 ghost use Rattle.std.specs.Prelude.{◌≡◌, [], ◌≤◌, IfOk, All, length};
 ghost use Rattle.am_gate.specs.Circuit.{HasRoom, Begins};
 ghost use Rattle.am_bv.specs.Operators.{arity, weight_of};
-ghost use Rattle.am_blast.specs.Words.{IsWord};
+ghost use Rattle.am_blast.specs.Words.{AreWords, IsWord};
 ghost use Rattle.am_blast.specs.Circuits.{circuit_at, circuit_of};
-ghost use Rattle.am_blast.specs.Promises.{Gives};
+ghost use Rattle.am_gate.specs.Promises.{Gives};
 
-use crate::bitwise::{Gate, at_each_bit, disjunction};
+use crate::bitwise::{Gate, at_each_bit};
 use crate::divide::{quotient, remainder};
 use crate::product::product;
 use crate::relation::{Relation, chosen, flagged, if_nonzero};
@@ -17,8 +19,9 @@ use am_gate::Circuit;
 use am_lit::Lit;
 use std::alloc::{AllocError, Global};
 
-/// The operator at these words.
-pub(crate) fn apply(
+/// The operator at these words, whose circuit is its row in `specs/Circuits.antt`. After want of memory the
+/// circuit begins with its earlier variables and clauses.
+pub fn apply(
     alloc: Global,
     circuit: &mut Circuit,
     w: Width,
@@ -28,7 +31,8 @@ pub(crate) fn apply(
     requires count { length args.now ≡ arity op }
     requires words { All (IsWord w circuit.old.vars) args.now }
     requires room { HasRoom (weight_of w op) circuit.old }
-    ensures ok { IfOk result (λ r. Gives (circuit_of w op args.now) (weight_of w op) (IsWord w) circuit.old r circuit.new) }
+    ensures ok { IfOk result (λ r.
+        Gives (circuit_of w op args.now) (weight_of w op) (IsWord w) circuit.old r circuit.new) }
     ensures begins { Begins circuit.old circuit.new }
 {
     let a = args[0].as_slice();
@@ -51,16 +55,17 @@ fn binary(
     requires count { arity op ≡ 2 }
     requires least { 1 ≤ length a.now }
     requires most { length a.now ≤ 8 }
-    requires first { IsWord (length a.now) circuit.old.vars a.now }
-    requires second { IsWord (length a.now) circuit.old.vars b.now }
+    requires words { AreWords circuit.old.vars a.now b.now }
     requires room { HasRoom (weight_of (length a.now) op) circuit.old }
-    ensures ok { IfOk result (λ r. Gives (circuit_at (length a.now) op a.now b.now []) (weight_of (length a.now) op) (IsWord (length a.now)) circuit.old r circuit.new) }
+    ensures ok { IfOk result (λ r.
+        Gives (circuit_at (length a.now) op a.now b.now []) (weight_of (length a.now) op)
+        (IsWord (length a.now)) circuit.old r circuit.new) }
     ensures begins { Begins circuit.old circuit.new }
 {
     let off = circuit.truth().opposite();
     match op {
         Op::And => at_each_bit(alloc, circuit, Gate::Both, a, b),
-        Op::Or => disjunction(alloc, circuit, a, b),
+        Op::Or => at_each_bit(alloc, circuit, Gate::Either, a, b),
         Op::Xor => at_each_bit(alloc, circuit, Gate::Differ, a, b),
         Op::Add => sum(alloc, circuit, a, b, off),
         Op::Sub => difference(alloc, circuit, a, b),

@@ -1,19 +1,21 @@
+//! Products of words.
+
 ghost use Rattle.std.specs.Prelude.{◌≡◌, IfOk, All, length};
-ghost use Rattle.am_gate.specs.Circuit.{IsIn, HasRoom, Begins};
+ghost use Rattle.am_gate.specs.Circuit.{IsLiteral, HasRoom, Begins};
 ghost use Rattle.am_bv.specs.Operators.{weight_of};
 ghost use Rattle.am_bv.specs.declared.op.Op.TheVariants.{Mul};
-ghost use Rattle.am_blast.specs.Words.{IsWord};
+ghost use Rattle.am_blast.specs.Words.{AreWords, IsWord};
 ghost use Rattle.am_blast.specs.Products.{each_and, product};
-ghost use Rattle.am_blast.specs.Promises.{Gives};
+ghost use Rattle.am_gate.specs.Promises.{Gives};
 
-use crate::sum::sum;
+use crate::sum::{sum, zeros};
 use crate::word::{WordLits, padded_below};
 use am_gate::Circuit;
 use am_lit::Lit;
 use std::alloc::{AllocError, Global};
 
 /// Each literal of the word together with `b`.
-#[tactic(auto, using(crate::proofs::Steps::begins))]
+#[tactic(auto, using(am_gate::proofs::Laws::begins))]
 fn each_and(
     alloc: Global,
     circuit: &mut Circuit,
@@ -21,9 +23,10 @@ fn each_and(
     word: &[Lit],
 ) -> Result<WordLits, AllocError>
     requires room { HasRoom (length word.now) circuit.old }
-    requires literal { IsIn circuit.old b }
-    requires word { All (IsIn circuit.old) word.now }
-    ensures ok { IfOk result (λ r. Gives (each_and b word.now) (length word.now) (IsWord (length word.now)) circuit.old r circuit.new) }
+    requires literal { IsLiteral circuit.old.vars b }
+    requires word { All (IsLiteral circuit.old.vars) word.now }
+    ensures ok { IfOk result (λ r.
+        Gives (each_and b word.now) (length word.now) (IsWord (length word.now)) circuit.old r circuit.new) }
     ensures begins { Begins circuit.old circuit.new }
 {
     let mut row = WordLits::new(alloc);
@@ -35,22 +38,22 @@ fn each_and(
 }
 
 /// The product of two words.
-#[tactic(auto, using(crate::proofs::Steps::begins))]
+#[tactic(auto, using(am_gate::proofs::Laws::begins))]
 pub(crate) fn product(
     alloc: Global,
     circuit: &mut Circuit,
     a: &[Lit],
     b: &[Lit],
 ) -> Result<WordLits, AllocError>
-    requires lengths { length b.now ≡ length a.now }
+    requires words { AreWords circuit.old.vars a.now b.now }
     requires room { HasRoom (weight_of (length a.now) Mul) circuit.old }
-    requires first { All (IsIn circuit.old) a.now }
-    requires second { All (IsIn circuit.old) b.now }
-    ensures ok { IfOk result (λ r. Gives (product a.now b.now) (weight_of (length a.now) Mul) (IsWord (length a.now)) circuit.old r circuit.new) }
+    ensures ok { IfOk result (λ r.
+        Gives (product a.now b.now) (weight_of (length a.now) Mul)
+        (IsWord (length a.now)) circuit.old r circuit.new) }
     ensures begins { Begins circuit.old circuit.new }
 {
     let falsity = circuit.truth().opposite();
-    let mut acc = padded_below(alloc, falsity, a.len(), &[])?;
+    let mut acc = zeros(alloc, circuit, a.len())?;
     for i in 0..b.len() {
         let row = each_and(alloc, circuit, b[i], &a[..a.len() - i])?;
         let moved = padded_below(alloc, falsity, i, row.as_slice())?;

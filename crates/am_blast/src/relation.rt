@@ -1,10 +1,11 @@
+//! Relations of two words, as words and as choices.
+
 ghost use Rattle.std.specs.Prelude.{◌≡◌, ◌+◌, ◌≤◌, IfOk, All, length};
-ghost use Rattle.am_gate.specs.Circuit.{falsity, IsIn, HasRoom, Begins};
-ghost use Rattle.am_blast.specs.Words.{IsLiteral, IsWord, flag};
+ghost use Rattle.am_gate.specs.Circuit.{IsLiteral, HasRoom, Begins};
+ghost use Rattle.am_blast.specs.Words.{AreWords, IsWord, flag};
 ghost use Rattle.am_blast.specs.Bitwise.{choice};
-ghost use Rattle.am_blast.specs.Comparisons.{nonzero, flagged};
-ghost use Rattle.am_blast.specs.Relations.{test_of, test_weight};
-ghost use Rattle.am_blast.specs.Promises.{Gives};
+ghost use Rattle.am_blast.specs.Comparisons.{nonzero, flagged, test_of, test_weight};
+ghost use Rattle.am_gate.specs.Promises.{Gives};
 
 use crate::bitwise::{Gate, at_each_bit};
 use crate::compare::{is_at_most, is_below, sign_turned};
@@ -39,15 +40,15 @@ pub(crate) fn flagged(
     b: &[Lit],
 ) -> Result<WordLits, AllocError>
     requires bits { 1 ≤ length a.now }
-    requires lengths { length b.now ≡ length a.now }
+    requires words { AreWords circuit.old.vars a.now b.now }
     requires room { HasRoom (test_weight relation (length a.now)) circuit.old }
-    requires first { All (IsIn circuit.old) a.now }
-    requires second { All (IsIn circuit.old) b.now }
-    ensures ok { IfOk result (λ r. Gives (flagged (length a.now) (test_of relation a.now b.now)) (test_weight relation (length a.now)) (IsWord (length a.now)) circuit.old r circuit.new) }
+    ensures ok { IfOk result (λ r.
+        Gives (flagged (length a.now) (test_of relation a.now b.now)) (test_weight relation (length a.now))
+        (IsWord (length a.now)) circuit.old r circuit.new) }
     ensures begins { Begins circuit.old circuit.new }
 {
     let holds = test(alloc, circuit, relation, a, b)?;
-    let word = flag(alloc, holds, circuit.truth().opposite(), a.len())?;
+    let word = flag(alloc, circuit, holds, a.len())?;
     Ok(word)
 }
 
@@ -61,14 +62,12 @@ pub(crate) fn chosen(
     x: &[Lit],
     y: &[Lit],
 ) -> Result<WordLits, AllocError>
-    requires lengths { length b.now ≡ length a.now }
-    requires choices { length y.now ≡ length x.now }
+    requires words { AreWords circuit.old.vars a.now b.now }
+    requires choices { AreWords circuit.old.vars x.now y.now }
     requires room { HasRoom (test_weight relation (length a.now) + length x.now) circuit.old }
-    requires first { All (IsIn circuit.old) a.now }
-    requires second { All (IsIn circuit.old) b.now }
-    requires one { All (IsIn circuit.old) x.now }
-    requires other { All (IsIn circuit.old) y.now }
-    ensures ok { IfOk result (λ r. Gives (choice (test_of relation a.now b.now) x.now y.now) (test_weight relation (length a.now) + length x.now) (IsWord (length x.now)) circuit.old r circuit.new) }
+    ensures ok { IfOk result (λ r.
+        Gives (choice (test_of relation a.now b.now) x.now y.now) (test_weight relation (length a.now) + length x.now)
+        (IsWord (length x.now)) circuit.old r circuit.new) }
     ensures begins { Begins circuit.old circuit.new }
 {
     let holds = test(alloc, circuit, relation, a, b)?;
@@ -84,12 +83,12 @@ pub(crate) fn if_nonzero(
     a: &[Lit],
     b: &[Lit],
 ) -> Result<WordLits, AllocError>
-    requires lengths { length b.now ≡ length a.now }
+    requires words { AreWords circuit.old.vars a.now b.now }
     requires room { HasRoom (length c.now + length a.now) circuit.old }
-    requires test { All (IsIn circuit.old) c.now }
-    requires first { All (IsIn circuit.old) a.now }
-    requires second { All (IsIn circuit.old) b.now }
-    ensures ok { IfOk result (λ r. Gives (choice (nonzero c.now) a.now b.now) (length c.now + length a.now) (IsWord (length a.now)) circuit.old r circuit.new) }
+    requires test { All (IsLiteral circuit.old.vars) c.now }
+    ensures ok { IfOk result (λ r.
+        Gives (choice (nonzero c.now) a.now b.now) (length c.now + length a.now)
+        (IsWord (length a.now)) circuit.old r circuit.new) }
     ensures begins { Begins circuit.old circuit.new }
 {
     let holds = is_nonzero(circuit, c)?;
@@ -105,11 +104,11 @@ fn test(
     a: &[Lit],
     b: &[Lit],
 ) -> Result<Lit, AllocError>
-    requires lengths { length b.now ≡ length a.now }
+    requires words { AreWords circuit.old.vars a.now b.now }
     requires room { HasRoom (test_weight relation (length a.now)) circuit.old }
-    requires first { All (IsIn circuit.old) a.now }
-    requires second { All (IsIn circuit.old) b.now }
-    ensures ok { IfOk result (λ r. Gives (test_of relation a.now b.now) (test_weight relation (length a.now)) IsLiteral circuit.old r circuit.new) }
+    ensures ok { IfOk result (λ r.
+        Gives (test_of relation a.now b.now) (test_weight relation (length a.now))
+        IsLiteral circuit.old r circuit.new) }
     ensures begins { Begins circuit.old circuit.new }
 {
     match relation {
@@ -130,13 +129,12 @@ fn test(
 }
 
 /// The word of this many literals whose bit 0 is `l` and whose other bits are false.
-fn flag(alloc: Global, l: Lit, off: Lit, bits: usize) -> Result<WordLits, AllocError>
-    requires bits { 1 ≤ bits }
-    requires off { off ≡ falsity }
+fn flag(alloc: Global, circuit: &Circuit, l: Lit, bits: usize) -> Result<WordLits, AllocError>
+    requires { 1 ≤ bits }
     ensures { IfOk result (λ r. r ≡ flag bits l) }
 {
     let literals = repeat_n(l, 1)
-        .chain(repeat_n(off, bits - 1))
+        .chain(repeat_n(circuit.truth().opposite(), bits - 1))
         .collect(alloc)?;
     Ok(WordLits::from_vec(literals))
 }

@@ -1,9 +1,10 @@
+//! Shifts of words.
+
 ghost use Rattle.std.specs.Prelude.{◌≡◌, ◌+◌, ◌*◌, ◌^◌, ◌<◌, ◌≤◌, IfOk, All, length, slice_index_or};
-ghost use Rattle.am_gate.specs.Circuit.{IsIn, HasRoom, Begins};
-ghost use Rattle.am_blast.specs.Words.{IsWord};
-ghost use Rattle.am_blast.specs.Shifts.{shifted};
-ghost use Rattle.am_blast.specs.Directions.{moved_to};
-ghost use Rattle.am_blast.specs.Promises.{Gives};
+ghost use Rattle.am_gate.specs.Circuit.{IsLiteral, HasRoom, Begins};
+ghost use Rattle.am_blast.specs.Words.{AreWords, IsWord};
+ghost use Rattle.am_blast.specs.Shifts.{moved, shifted};
+ghost use Rattle.am_gate.specs.Promises.{Gives};
 
 use crate::bitwise::{Gate, at_each_bit};
 use crate::word::{WordLits, copied};
@@ -21,7 +22,7 @@ pub(crate) enum Direction {
 }
 
 /// The first word moved by as many bits as the second reads, with copies of a literal moved in.
-#[tactic(auto, using(crate::proofs::Steps::begins))]
+#[tactic(auto, using(am_gate::proofs::Laws::begins))]
 pub(crate) fn shifted(
     alloc: Global,
     circuit: &mut Circuit,
@@ -30,13 +31,13 @@ pub(crate) fn shifted(
     a: &[Lit],
     by: &[Lit],
 ) -> Result<WordLits, AllocError>
-    requires lengths { length by.now ≡ length a.now }
+    requires words { AreWords circuit.old.vars a.now by.now }
     requires few { length a.now ≤ 8 }
     requires room { HasRoom (length a.now * length a.now) circuit.old }
-    requires fill { IsIn circuit.old fill }
-    requires first { All (IsIn circuit.old) a.now }
-    requires second { All (IsIn circuit.old) by.now }
-    ensures ok { IfOk result (λ r. Gives (shifted (moved_to direction fill) a.now by.now) (length a.now * length a.now) (IsWord (length a.now)) circuit.old r circuit.new) }
+    requires fill { IsLiteral circuit.old.vars fill }
+    ensures ok { IfOk result (λ r.
+        Gives (shifted (moved direction fill) a.now by.now) (length a.now * length a.now)
+        (IsWord (length a.now)) circuit.old r circuit.new) }
     ensures begins { Begins circuit.old circuit.new }
 {
     let mut word = copied(alloc, a)?;
@@ -54,14 +55,14 @@ pub(crate) fn shifted(
 }
 
 /// The word moved by `n` bits, with copies of a literal moved in.
-fn moved(
+pub(crate) fn moved(
     alloc: Global,
     direction: &Direction,
     fill: Lit,
     n: usize,
     word: &[Lit],
 ) -> Result<WordLits, AllocError>
-    ensures { IfOk result (λ r. r ≡ moved_to direction.now fill n word.now) }
+    ensures { IfOk result (λ r. r ≡ moved direction.now fill n word.now) }
 {
     let mut literals = WordLits::new(alloc);
     for i in 0..word.len() {
@@ -73,7 +74,7 @@ fn moved(
 /// The literal of bit `i` of the moved word.
 fn moved_literal(direction: &Direction, fill: Lit, n: usize, word: &[Lit], i: usize) -> Lit
     requires { i < length word.now }
-    ensures { result ≡ slice_index_or (moved_to direction.now fill n word.now) i result }
+    ensures { result ≡ slice_index_or (moved direction.now fill n word.now) i result }
 {
     match direction {
         Direction::Up => if i < n { fill } else { word[i - n] },

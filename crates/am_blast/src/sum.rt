@@ -1,8 +1,10 @@
+//! Sums and differences of words.
+
 ghost use Rattle.std.specs.Prelude.{◌≡◌, ◌*◌, IfOk, All, length};
-ghost use Rattle.am_gate.specs.Circuit.{truth, IsIn, HasRoom, Begins};
-ghost use Rattle.am_blast.specs.Words.{IsWord, IsLiteral, opposites, zeros};
+ghost use Rattle.am_gate.specs.Circuit.{truth, IsLiteral, HasRoom, Begins};
+ghost use Rattle.am_blast.specs.Words.{AreWords, IsWord, opposites, zeros};
 ghost use Rattle.am_blast.specs.Sums.{full_adder, adder, sum_of};
-ghost use Rattle.am_blast.specs.Promises.{Gives};
+ghost use Rattle.am_gate.specs.Promises.{Gives};
 
 use crate::word::{WordLits, opposites};
 use am_gate::Circuit;
@@ -11,7 +13,7 @@ use std::alloc::{AllocError, Global};
 use std::iter::repeat_n;
 
 /// The sum and the carry of three bits.
-#[tactic(auto, using(crate::proofs::Steps::begins))]
+#[tactic(auto, using(am_gate::proofs::Laws::begins))]
 pub(crate) fn add_bits(
     circuit: &mut Circuit,
     a: Lit,
@@ -19,10 +21,11 @@ pub(crate) fn add_bits(
     c: Lit,
 ) -> Result<(Lit, Lit), AllocError>
     requires room { HasRoom 3 circuit.old }
-    requires first { IsIn circuit.old a }
-    requires second { IsIn circuit.old b }
-    requires third { IsIn circuit.old c }
-    ensures ok { IfOk result (λ r. Gives (full_adder a b c) 3 (λ vars s. IsLiteral vars s.0 × IsLiteral vars s.1) circuit.old r circuit.new) }
+    requires first { IsLiteral circuit.old.vars a }
+    requires second { IsLiteral circuit.old.vars b }
+    requires third { IsLiteral circuit.old.vars c }
+    ensures ok { IfOk result (λ r.
+        Gives (full_adder a b c) 3 (λ vars s. IsLiteral vars s.0 × IsLiteral vars s.1) circuit.old r circuit.new) }
     ensures begins { Begins circuit.old circuit.new }
 {
     let half = circuit.xor(a, b)?;
@@ -39,12 +42,12 @@ pub(crate) fn add_words(
     b: &[Lit],
     c: Lit,
 ) -> Result<(WordLits, Lit), AllocError>
-    requires lengths { length b.now ≡ length a.now }
+    requires words { AreWords circuit.old.vars a.now b.now }
     requires room { HasRoom (3 * length a.now) circuit.old }
-    requires first { All (IsIn circuit.old) a.now }
-    requires second { All (IsIn circuit.old) b.now }
-    requires third { IsIn circuit.old c }
-    ensures ok { IfOk result (λ r. Gives (adder a.now b.now c) (3 * length a.now) (λ vars s. IsWord (length a.now) vars s.0 × IsLiteral vars s.1) circuit.old r circuit.new) }
+    requires third { IsLiteral circuit.old.vars c }
+    ensures ok { IfOk result (λ r.
+        Gives (adder a.now b.now c) (3 * length a.now)
+        (λ vars s. IsWord (length a.now) vars s.0 × IsLiteral vars s.1) circuit.old r circuit.new) }
     ensures begins { Begins circuit.old circuit.new }
 {
     let mut word = WordLits::new(alloc);
@@ -65,12 +68,11 @@ pub(crate) fn sum(
     b: &[Lit],
     c: Lit,
 ) -> Result<WordLits, AllocError>
-    requires lengths { length b.now ≡ length a.now }
+    requires words { AreWords circuit.old.vars a.now b.now }
     requires room { HasRoom (3 * length a.now) circuit.old }
-    requires first { All (IsIn circuit.old) a.now }
-    requires second { All (IsIn circuit.old) b.now }
-    requires third { IsIn circuit.old c }
-    ensures ok { IfOk result (λ r. Gives (sum_of a.now b.now c) (3 * length a.now) (IsWord (length a.now)) circuit.old r circuit.new) }
+    requires third { IsLiteral circuit.old.vars c }
+    ensures ok { IfOk result (λ r.
+        Gives (sum_of a.now b.now c) (3 * length a.now) (IsWord (length a.now)) circuit.old r circuit.new) }
     ensures begins { Begins circuit.old circuit.new }
 {
     let (word, _) = add_words(alloc, circuit, a, b, c)?;
@@ -84,11 +86,11 @@ pub(crate) fn difference(
     a: &[Lit],
     b: &[Lit],
 ) -> Result<WordLits, AllocError>
-    requires lengths { length b.now ≡ length a.now }
+    requires words { AreWords circuit.old.vars a.now b.now }
     requires room { HasRoom (3 * length a.now) circuit.old }
-    requires first { All (IsIn circuit.old) a.now }
-    requires second { All (IsIn circuit.old) b.now }
-    ensures ok { IfOk result (λ r. Gives (sum_of a.now (opposites b.now) truth) (3 * length a.now) (IsWord (length a.now)) circuit.old r circuit.new) }
+    ensures ok { IfOk result (λ r.
+        Gives (sum_of a.now (opposites b.now) truth) (3 * length a.now)
+        (IsWord (length a.now)) circuit.old r circuit.new) }
     ensures begins { Begins circuit.old circuit.new }
 {
     let not_b = opposites(alloc, b)?;
@@ -103,8 +105,10 @@ pub(crate) fn negation(
     a: &[Lit],
 ) -> Result<WordLits, AllocError>
     requires room { HasRoom (3 * length a.now) circuit.old }
-    requires word { All (IsIn circuit.old) a.now }
-    ensures ok { IfOk result (λ r. Gives (sum_of (opposites a.now) (zeros (length a.now)) truth) (3 * length a.now) (IsWord (length a.now)) circuit.old r circuit.new) }
+    requires word { All (IsLiteral circuit.old.vars) a.now }
+    ensures ok { IfOk result (λ r.
+        Gives (sum_of (opposites a.now) (zeros (length a.now)) truth) (3 * length a.now)
+        (IsWord (length a.now)) circuit.old r circuit.new) }
     ensures begins { Begins circuit.old circuit.new }
 {
     let not_a = opposites(alloc, a)?;
@@ -114,7 +118,7 @@ pub(crate) fn negation(
 }
 
 /// A word of `n` literals that are false.
-fn zeros(alloc: Global, circuit: &Circuit, n: usize) -> Result<WordLits, AllocError>
+pub fn zeros(alloc: Global, circuit: &Circuit, n: usize) -> Result<WordLits, AllocError>
     ensures { IfOk result (λ r. r ≡ zeros n) }
 {
     let literals = repeat_n(circuit.truth().opposite(), n).collect(alloc)?;

@@ -1,11 +1,13 @@
-ghost use Rattle.std.specs.Prelude.{ℕ, Bool, ◌≡◌, ◌+◌, ◌%◌, ◌^◌, ◌<◌, ◌==◌, if◌then◌else◌, IfOk, OnOk, All, IsTrue, length, map};
-ghost use Rattle.am_gate.specs.Circuit.{truth, falsity, IsIn, HasRoom, Grows, Begins};
+//! The circuit of a term.
+
+ghost use Rattle.std.specs.Prelude.{ℕ, Bool, ◌≡◌, false, ◌+◌, ◌%◌, ◌^◌, ◌<◌, ◌==◌, if◌then◌else◌, IfOk, OnOk, All, IsTrue, length, map};
+ghost use Rattle.am_gate.specs.Circuit.{truth, falsity, AreScoped, HasRoom, Grows, Begins};
 ghost use Rattle.am_gate.specs.Value.{Meets};
 ghost use Rattle.am_gate.specs.Build.{place_of, Follows, AreGates};
 ghost use Rattle.am_bv.specs.Terms.{val, fits, nodes, weight};
 ghost use Rattle.am_blast.specs.Words.{IsWord, reads, constant};
 ghost use Rattle.am_blast.specs.Circuits.{blasted};
-ghost use Rattle.am_blast.specs.Promises.{Gives};
+ghost use Rattle.am_gate.specs.Promises.{Gives};
 
 use crate::operator::apply;
 use crate::word::{WordLits, Words, copied};
@@ -16,10 +18,11 @@ use std::alloc::{AllocError, Global};
 
 /// Makes the circuit of a term over the words of its fields, and answers the term's word.
 ///
-/// It makes exactly as many gates as the term weighs, and no input. Wherever variable 0 is true and
-/// each gate's variable has its gate's value, the word reads as the value of the term where each field
-/// has the value that its word reads. Each choice of the earlier variables extends to such truth
-/// values. After want of memory the circuit begins with its earlier variables and clauses.
+/// It makes exactly as many gates as the term weighs, or fewer where the circuit folds, each over earlier
+/// variables, and no input. Wherever variable 0 is true and each gate's variable has its gate's value, the
+/// word reads as the value of the term where each field has the value that its word reads. Each choice of
+/// the earlier variables extends to such truth values. After want of memory the circuit begins with its
+/// earlier variables and clauses.
 pub fn blast(
     alloc: Global,
     circuit: &mut Circuit,
@@ -34,8 +37,10 @@ pub fn blast(
     ensures circuit { IfOk result (λ r. Follows (blasted w fields.now term.now) circuit.old r circuit.new) }
     ensures word { IfOk result (IsWord w circuit.new.vars) }
     ensures grows { OnOk result (Grows (weight w term.now) circuit.old circuit.new) }
+    ensures scoped { AreScoped circuit.old.vars (blasted w fields.now term.now (place_of circuit.old)).events }
     ensures gates { AreGates (blasted w fields.now term.now (place_of circuit.old)).events }
-    ensures count { OnOk result (circuit.new.vars ≡ circuit.old.vars + weight w term.now) }
+    ensures count { circuit.old.folding ≡ false →
+        OnOk result (circuit.new.vars ≡ circuit.old.vars + weight w term.now) }
     ensures meaning { IfOk result (λ r. (v : ℕ → Bool) → IsTrue (v 0) →
         Meets v circuit.old.vars (blasted w fields.now term.now (place_of circuit.old)).events →
         reads v r ≡ val w term.now (map (reads v) fields.now)) }
@@ -44,37 +49,36 @@ pub fn blast(
         Meets u circuit.old.vars (blasted w fields.now term.now (place_of circuit.old)).events }
     ensures begins { Begins circuit.old circuit.new }
 {
-    let on = circuit.truth();
-    let word = word_of(alloc, circuit, w, term, fields, on)?;
+    prove!(circuit.truth().variable() == 0);
+    let word = word_of(alloc, circuit, w, term, fields)?;
     Ok(word)
 }
 
-/// The word of a term: its arguments from left to right, then its operator. The literal `on` is true.
-#[tactic(auto, using(crate::proofs::Steps::begins))]
+/// The word of a term: its arguments from left to right, then its operator.
+#[tactic(auto, using(am_gate::proofs::Laws::begins))]
 fn word_of(
     alloc: Global,
     circuit: &mut Circuit,
     w: Width,
     term: &Term,
     fields: &[WordLits],
-    on: Lit,
 ) -> Result<WordLits, AllocError>
     requires fits { IsTrue (fits w (length fields.now) term.now) }
     requires nodes { nodes term.now < 2 ^ 32 }
     requires fields { All (IsWord w circuit.old.vars) fields.now }
     requires room { HasRoom (weight w term.now) circuit.old }
-    requires on { on ≡ truth }
-    requires inside { IsIn circuit.old on }
-    ensures ok { IfOk result (λ r. Gives (blasted w fields.now term.now) (weight w term.now) (IsWord w) circuit.old r circuit.new) }
+    requires truth { 0 < circuit.old.vars }
+    ensures ok { IfOk result (λ r.
+        Gives (blasted w fields.now term.now) (weight w term.now) (IsWord w) circuit.old r circuit.new) }
     ensures begins { Begins circuit.old circuit.new }
 {
     match term {
-        Term::Const(c) => constant(alloc, w, *c, on),
+        Term::Const(c) => constant(alloc, circuit, w, *c),
         Term::Field(i) => copied(alloc, fields[*i as usize].as_slice()),
         Term::Node(op, args) => {
             let mut words = Words::new(alloc);
             for t in args.as_slice() {
-                let word = word_of(alloc, circuit, w, t, fields, on)?;
+                let word = word_of(alloc, circuit, w, t, fields)?;
                 words.push(word)?;
             }
             apply(alloc, circuit, w, *op, words.as_slice())
@@ -82,24 +86,16 @@ fn word_of(
     }
 }
 
-/// The word of a constant, from the literal that is true.
-fn constant(alloc: Global, w: Width, c: u8, on: Lit) -> Result<WordLits, AllocError>
-    requires { on ≡ truth }
+/// The word of a constant.
+fn constant(alloc: Global, circuit: &Circuit, w: Width, c: u8) -> Result<WordLits, AllocError>
     ensures { IfOk result (λ r. r ≡ constant w c) }
 {
+    let on = circuit.truth();
     let mut word = WordLits::new(alloc);
     let mut rest = c;
     for _ in 0..w.bits() {
-        word.push(low_bit(rest, on))?;
+        word.push(Lit::new(on.variable(), rest % 2 == 0))?;
         rest /= 2;
     }
     Ok(word)
-}
-
-/// The literal of bit 0 of a constant.
-fn low_bit(c: u8, on: Lit) -> Lit
-    requires { on ≡ truth }
-    ensures { result ≡ (if c % 2 == 0 then falsity else truth) }
-{
-    if c % 2 == 0 { on.opposite() } else { on }
 }

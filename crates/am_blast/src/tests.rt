@@ -1,95 +1,16 @@
+//! Tests.
+
 ghost use Rattle.std.specs.Prelude.{◌≡◌, ◌≤◌, ◌*◌, IfOk, OnOk};
-ghost use Rattle.am_gate.specs.Circuit.{HasRoom, Grows};
+ghost use Rattle.am_gate.specs.Circuit.{HasRoom, Grows, start};
 ghost use Rattle.am_blast.specs.Words.{IsWord};
 
-use crate::{WordLits, blast};
+use crate::expected::{CIRCUITS, Made};
+use crate::{Gate, WordLits, Words, apply, at_each_bit, blast, copied, zeros};
 use am_bv::{Op, Row, Term, Width, value};
 use am_gate::Circuit;
 use am_lit::{Formula, Lit};
 use std::alloc::{AllocError, Global};
 use std::test::Fail;
-
-/// Lays the table below out with one line for an operator at a number of bits.
-macro_rules! circuits {
-    ($($op:ident $bits:literal $gates:literal: $($first:literal)* | $($last:literal)*;)*) => {
-        [$((Op::$op, $bits, $gates, &[$($first),*], &[$($last),*])),*]
-    };
-}
-
-/// An operator, a number of bits, the number of gates in its circuit over three words of inputs, and
-/// the codes of the literals of their first and last clause. A circuit without gates has the clause
-/// of variable 0 alone.
-static CIRCUITS: [(Op, u32, u32, &[u32], &[u32]); 69] = circuits! {
-    Not 2 0: 0 | 0;
-    Not 3 0: 0 | 0;
-    Not 8 0: 0 | 0;
-    Neg 2 6: 1 3 15 | 5 20 25;
-    Neg 3 9: 1 3 21 | 7 32 37;
-    Neg 8 24: 1 3 51 | 17 92 97;
-    And 2 2: 2 15 | 5 9 16;
-    And 3 3: 2 21 | 7 13 24;
-    And 8 8: 2 51 | 17 33 64;
-    Or 2 2: 3 15 | 4 8 16;
-    Or 3 3: 3 21 | 6 12 24;
-    Or 8 8: 3 51 | 16 32 64;
-    Xor 2 2: 2 6 15 | 4 9 16;
-    Xor 3 3: 2 8 21 | 6 13 24;
-    Xor 8 8: 2 18 51 | 16 33 64;
-    Add 2 6: 2 6 15 | 4 20 25;
-    Add 3 9: 2 8 21 | 6 32 37;
-    Add 8 24: 2 18 51 | 16 92 97;
-    Sub 2 6: 2 7 15 | 4 20 25;
-    Sub 3 9: 2 9 21 | 6 32 37;
-    Sub 8 24: 2 19 51 | 16 92 97;
-    Mul 2 15: 6 15 | 26 38 43;
-    Mul 3 33: 8 21 | 62 80 85;
-    Mul 8 228: 18 51 | 452 500 505;
-    Udiv 2 24: 4 7 15 | 34 54 61;
-    Udiv 3 48: 6 9 21 | 80 106 115;
-    Udiv 8 288: 16 19 51 | 550 606 625;
-    Urem 2 24: 4 7 15 | 34 54 61;
-    Urem 3 48: 6 9 21 | 80 106 115;
-    Urem 8 288: 16 19 51 | 550 606 625;
-    Shl 2 4: 0 7 14 | 8 16 21;
-    Shl 3 9: 0 9 20 | 12 30 37;
-    Shl 8 64: 0 19 50 | 32 160 177;
-    Lshr 2 4: 5 7 14 | 8 16 21;
-    Lshr 3 9: 5 9 20 | 12 30 37;
-    Lshr 8 64: 5 19 50 | 32 160 177;
-    Ashr 2 4: 5 7 14 | 8 16 21;
-    Ashr 3 9: 5 9 20 | 12 30 37;
-    Ashr 8 64: 5 19 50 | 32 160 177;
-    Eq 2 4: 2 6 15 | 17 18 20;
-    Eq 3 6: 2 8 21 | 27 28 30;
-    Eq 8 16: 2 18 51 | 77 78 80;
-    Ult 2 6: 2 7 15 | 4 20 25;
-    Ult 3 9: 2 9 21 | 6 32 37;
-    Ult 8 24: 2 19 51 | 16 92 97;
-    Ule 2 6: 3 6 15 | 8 20 25;
-    Ule 3 9: 3 8 21 | 12 32 37;
-    Ule 8 24: 3 18 51 | 32 92 97;
-    Slt 2 6: 2 7 15 | 5 20 25;
-    Slt 3 9: 2 9 21 | 7 32 37;
-    Slt 8 24: 2 19 51 | 17 92 97;
-    Sle 2 6: 3 6 15 | 9 20 25;
-    Sle 3 9: 3 8 21 | 13 32 37;
-    Sle 8 24: 3 18 51 | 33 92 97;
-    Umin 2 8: 2 7 15 | 8 25 29;
-    Umin 3 12: 2 9 21 | 12 37 43;
-    Umin 8 32: 2 19 51 | 32 97 113;
-    Umax 2 8: 2 7 15 | 4 25 29;
-    Umax 3 12: 2 9 21 | 6 37 43;
-    Umax 8 32: 2 19 51 | 16 97 113;
-    Smin 2 8: 2 7 15 | 8 25 29;
-    Smin 3 12: 2 9 21 | 12 37 43;
-    Smin 8 32: 2 19 51 | 32 97 113;
-    Smax 2 8: 2 7 15 | 4 25 29;
-    Smax 3 12: 2 9 21 | 6 37 43;
-    Smax 8 32: 2 19 51 | 16 97 113;
-    Ite 2 4: 0 15 | 12 17 21;
-    Ite 3 6: 0 21 | 18 25 31;
-    Ite 8 16: 0 51 | 48 65 81;
-};
 
 /// A word of inputs.
 fn input_word(alloc: Global, circuit: &mut Circuit, w: Width) -> Result<WordLits, AllocError>
@@ -114,9 +35,20 @@ fn over_fields(alloc: Global, op: Op) -> Result<Term, AllocError> {
     Ok(Term::Node(op, args))
 }
 
+/// A new circuit of a form.
+fn started(alloc: Global, folding: bool) -> Result<Circuit, AllocError>
+    ensures { IfOk result (λ c. c ≡ start folding) }
+{
+    if folding {
+        Circuit::new_folding(alloc)
+    } else {
+        Circuit::new(alloc)
+    }
+}
+
 /// The formula and the word of a term over three words of inputs.
-fn made(alloc: Global, w: Width, term: &Term) -> Result<(Formula, WordLits), Fail> {
-    let mut circuit = Circuit::new(alloc)?;
+fn made(alloc: Global, folding: bool, w: Width, term: &Term) -> Result<(Formula, WordLits), Fail> {
+    let mut circuit = started(alloc, folding)?;
     let a = input_word(alloc, &mut circuit, w)?;
     let b = input_word(alloc, &mut circuit, w)?;
     let c = input_word(alloc, &mut circuit, w)?;
@@ -140,28 +72,56 @@ fn has_codes(clause: &[Lit], codes: &[u32]) -> bool {
     true
 }
 
+/// A checksum, and then the codes of some literals.
+fn and_then(checksum: u32, literals: &[Lit]) -> u32 {
+    let mut sum = checksum;
+    for l in literals {
+        sum = sum.wrapping_mul(33).wrapping_add(l.code()).wrapping_add(1);
+    }
+    sum.wrapping_mul(33)
+}
+
+/// A checksum of the codes of all clauses in order, and of the word.
+fn checksum(formula: &Formula, word: &WordLits) -> u32 {
+    let mut sum = 0;
+    for i in 0..formula.clauses.len() {
+        sum = and_then(sum, formula.clauses.clause(i));
+    }
+    and_then(sum, word.as_slice())
+}
+
+/// Whether the formula and the word over three words of inputs are as the table says.
+fn is_made(formula: &Formula, word: &WordLits, w: Width, made: &Made) -> bool {
+    let inputs = 1 + 3 * w.bits();
+    let clauses = &formula.clauses;
+    if clauses.len() == 0 {
+        return false;
+    }
+    let start = if clauses.len() > 1 { 1 } else { 0 };
+    formula.vars.saturating_sub(inputs) == made.gates
+        && has_codes(clauses.clause(start), made.first)
+        && has_codes(clauses.clause(clauses.len() - 1), made.last)
+        && checksum(formula, word) == made.checksum
+}
+
 #[test]
 fn circuits_have_their_gates_and_clauses(rt: HostRuntime) -> Result<(), Fail> {
-    for (op, bits, gates, first, last) in &CIRCUITS {
-        let w = Width::new(*bits).ok_or("no width")?;
-        let term = over_fields(rt.alloc(), *op)?;
-        let (formula, _) = made(rt.alloc(), w, &term)?;
-        let others = 1 + 3 * w.bits();
-        assert_eq!(rt;
-            formula.vars.saturating_sub(others),
-            *gates,
-            "{op:?} at {bits} bits"
-        );
-        let clauses = &formula.clauses;
-        assert!(rt; clauses.len() > 0);
-        let start = if clauses.len() > 1 { 1 } else { 0 };
+    for row in &CIRCUITS {
+        let w = Width::new(row.bits).ok_or("no width")?;
+        let term = over_fields(rt.alloc(), row.op)?;
+        let (formula, word) = made(rt.alloc(), false, w, &term)?;
         assert!(rt;
-            has_codes(clauses.clause(start), *first),
-            "{op:?} at {bits} bits"
+            is_made(&formula, &word, w, &row.plain),
+            "{:?} at {} bits",
+            row.op,
+            row.bits
         );
+        let (formula, word) = made(rt.alloc(), true, w, &term)?;
         assert!(rt;
-            has_codes(clauses.clause(clauses.len() - 1), *last),
-            "{op:?} at {bits} bits"
+            is_made(&formula, &word, w, &row.folding),
+            "{:?} at {} bits, folding",
+            row.op,
+            row.bits
         );
     }
     Ok(())
@@ -257,37 +217,78 @@ fn circuits_read_as_values(rt: HostRuntime) -> Result<(), Fail> {
     let w = Width::new(2).ok_or("no width")?;
     for op in OPERATORS {
         let term = over_fields(rt.alloc(), op)?;
-        let (formula, word) = made(rt.alloc(), w, &term)?;
-        for inputs in 0..64u8 {
-            let values = evaluated(&formula, input_values(rt.alloc(), inputs)?)?;
-            let expected = value_at(w, &term, inputs).ok_or("the term doesn't fit")?;
-            assert_eq!(rt;
-                read(&values, &word),
-                u32::from(expected),
-                "{op:?} at {inputs}"
-            );
+        for folding in [false, true] {
+            let (formula, word) = made(rt.alloc(), folding, w, &term)?;
+            for inputs in 0..64u8 {
+                let values = evaluated(&formula, input_values(rt.alloc(), inputs)?)?;
+                let expected = value_at(w, &term, inputs).ok_or("the term doesn't fit")?;
+                assert_eq!(rt;
+                    read(&values, &word),
+                    u32::from(expected),
+                    "{op:?} at {inputs}"
+                );
+            }
         }
     }
     Ok(())
 }
 
-#[test]
-fn a_remainder_by_zero_is_the_dividend(rt: HostRuntime) -> Result<(), Fail> {
-    let alloc = rt.alloc();
+/// The formula and the word of a remainder of 7 by 0, as constants of four bits.
+fn remainder_by_zero(alloc: Global, folding: bool) -> Result<(Formula, WordLits), Fail> {
     let w = Width::new(4).ok_or("no width")?;
-    let mut circuit = Circuit::new(alloc)?;
+    let mut circuit = started(alloc, folding)?;
     let seven = Term::Const(7);
     let zero = Term::Const(0);
     let term = over_fields(alloc, Op::Urem)?;
-    assert!(rt; seven.fits(w, 0) && zero.fits(w, 0) && term.fits(w, 2));
-    assert!(rt; seven.nodes() < 2 && zero.nodes() < 2 && term.nodes() < 4);
-    assert!(rt; seven.weight(w) == 0 && zero.weight(w) == 0 && term.weight(w) <= 288);
+    if !seven.fits(w, 0) || !zero.fits(w, 0) || !term.fits(w, 2) {
+        return Err(Fail::from("a term doesn't fit"));
+    }
+    if seven.nodes() > 1 || zero.nodes() > 1 || term.nodes() > 3 {
+        return Err(Fail::from("a term has more nodes"));
+    }
+    if seven.weight(w) > 0 || zero.weight(w) > 0 || term.weight(w) > 288 {
+        return Err(Fail::from("a term weighs more"));
+    }
     let a = blast(alloc, &mut circuit, w, &seven, &[])?;
     let b = blast(alloc, &mut circuit, w, &zero, &[])?;
     let word = blast(alloc, &mut circuit, w, &term, &[a, b])?;
-    let formula = circuit.finish();
+    Ok((circuit.finish(), word))
+}
+
+#[test]
+fn a_remainder_by_zero_is_the_dividend(rt: HostRuntime) -> Result<(), Fail> {
+    let (formula, word) = remainder_by_zero(rt.alloc(), false)?;
     assert_eq!(rt; formula.vars, 81);
-    let values = evaluated(&formula, Vec::new(alloc))?;
+    let values = evaluated(&formula, Vec::new(rt.alloc()))?;
     assert_eq!(rt; read(&values, &word), 7);
+    let (formula, word) = remainder_by_zero(rt.alloc(), true)?;
+    assert_eq!(rt; formula.vars, 1);
+    let values = evaluated(&formula, Vec::new(rt.alloc()))?;
+    assert_eq!(rt; read(&values, &word), 7);
+    Ok(())
+}
+
+#[test]
+fn words_are_put_together(rt: HostRuntime) -> Result<(), Fail> {
+    let alloc = rt.alloc();
+    let w = Width::new(2).ok_or("no width")?;
+    let mut circuit = Circuit::new(alloc)?;
+    let zero = zeros(alloc, &circuit, 2)?;
+    let again = copied(alloc, zero.as_slice())?;
+    assert!(rt; has_codes(again.as_slice(), &[1, 1]));
+    let either = at_each_bit(
+        alloc,
+        &mut circuit,
+        Gate::Either,
+        zero.as_slice(),
+        again.as_slice(),
+    )?;
+    assert!(rt; has_codes(either.as_slice(), &[3, 5]));
+    let mut words = Words::new(alloc);
+    words.push(either)?;
+    let turned = apply(alloc, &mut circuit, w, Op::Not, words.as_slice())?;
+    assert!(rt; has_codes(turned.as_slice(), &[2, 4]));
+    assert_eq!(rt; turned.get(1).code(), 4);
+    assert_eq!(rt; turned.into_vec().len(), 2);
     Ok(())
 }

@@ -1,4 +1,6 @@
-ghost use Rattle.std.specs.Prelude.{◌≡◌, ℕ, [], ◌∷◌, ◌++◌, ◌<◌, length, replicate, reverse, slice_index_or, IfOk, OnOk, OnErr};
+//! Words of literals.
+
+ghost use Rattle.std.specs.Prelude.{◌≡◌, ℕ, [], ◌∷◌, ◌++◌, ◌<◌, length, replicate, reverse, slice_get, Some, IfOk, OnOk, OnErr};
 ghost use Rattle.am_blast.specs.Words.{opposites};
 
 use am_bv::Row;
@@ -54,7 +56,7 @@ impl WordLits {
     /// The literal of bit `i`.
     pub fn get(&self, i: usize) -> &Lit
         requires { i < length self.now }
-        ensures { result.now ≡ slice_index_or self.now i result.now }
+        ensures { slice_get self.now i ≡ Some result.now }
     {
         &self.literals[i]
     }
@@ -88,7 +90,7 @@ pub(crate) fn opposites(alloc: Global, word: &[Lit]) -> Result<WordLits, AllocEr
 }
 
 /// A copy of the word.
-pub(crate) fn copied(alloc: Global, word: &[Lit]) -> Result<WordLits, AllocError>
+pub fn copied(alloc: Global, word: &[Lit]) -> Result<WordLits, AllocError>
     ensures { IfOk result (λ r. r ≡ word.now) }
 {
     let literals = word.iter().copied().collect(alloc)?;

@@ -10,14 +10,14 @@ use Rattle.am_lit.specs.Literal.{literal_of, opposite_of, variable_of}
 use Rattle.am_lit.specs.Clause.{sorted_literals}
 use Rattle.am_lit.specs.Truth.{literal_value, AllHold}
 use Rattle.am_lit.specs.UnitRow.{Determines, IsChoice, IsForcedBy, IsUnitRow}
-use Rattle.am_lit.proofs.Members.{Contains-head, Contains-here, Contains-tail, Contains-map}
-use Rattle.am_lit.proofs.Rising.{All-sorted_literals, Contains-sorted_literals}
-use Rattle.am_lit.proofs.Truths.{literal_value-opposite_of}
+use Rattle.am_lit.proofs.Laws.{Contains-head, Contains-here, Contains-tail, Contains-map}
+use Rattle.am_lit.proofs.Laws.{All-sorted_literals, Contains-sorted_literals}
+use Rattle.am_lit.proofs.Laws.{literal_value-opposite_of}
 use Rattle.am_gate.specs.Circuit.{Event, Event.Input, Event.And, Event.Xor, Event.Mux, Event.Clause, Net, AreScoped, added, after, built, clauses_of, inputs_of, is_tautology, start}
 use Rattle.am_gate.specs.Value.{Meets}
 use Rattle.am_gate.proofs.Extends.{Extended, extended, head_or, tail_of, gates_of}
 use Rattle.am_gate.proofs.Normals.{first, others}
-use Rattle.am_gate.proofs.Opposites.{opposite_parts, variable_of-opposite_of}
+use Rattle.am_lit.proofs.Laws.{opposite_parts, variable_of-opposite_of}
 use Rattle.am_gate.proofs.Sorting.{added_kept, tautology_parts}
 
 -- the literal of a variable that is true
@@ -232,27 +232,28 @@ module _ (w : ℕ → Bool) (clauses : List (List ℕ)) (given : List ℕ) where
         row,
       ))
 
-pub determined : (es : List Event) → AreScoped 1 es → Determines (built start es).clauses (built start es).vars (inputs_of 1 es)
-determined es sc literals choice = (row_of w (built start es).vars, all_rows, each) where
+-- the inputs of gates over earlier variables determine the circuit's formula
+pub determined : (folding : Bool) (es : List Event) → AreScoped 1 es → Determines (built (start folding) es).clauses (built (start folding) es).vars (inputs_of 1 es)
+determined folding es sc literals choice = (row_of w (built (start folding) es).vars, all_rows, each) where
   r : Extended (λ x. true) 1 es literals
   r = extended (λ x. true) 1 es literals sc choice
 
   w : ℕ → Bool
   w = r.values
 
-  truth_forced : Forces (built start es).clauses [] (true_of w 0)
+  truth_forced : Forces (built (start folding) es).clauses [] (true_of w 0)
   truth_forced =
       let sign : w 0 ≡ true = r.below 0 (omega arith) in
       rw sign (
         0 ∷ [],
-        kept start es (0 ∷ []) (Contains-head (0 ∷ []) []),
+        kept (start folding) es (0 ∷ []) (Contains-head (0 ∷ []) []),
         (Contains-head 0 [], All-cons (λ m. m ≢ 0 → Contains [] (opposite_of m)) 0 [] (λ ne. absurd (ne refl)) (All-nil (λ m. m ≢ 0 → Contains [] (opposite_of m)))),
       )
 
-  all_rows : IsUnitRow (built start es).clauses literals (row_of w (built start es).vars)
-  all_rows = rows w (built start es).clauses literals es start literals sc r.gates choice r.given (All-contains_itself literals) (λ d i. i) (inr truth_forced, tt)
+  all_rows : IsUnitRow (built (start folding) es).clauses literals (row_of w (built (start folding) es).vars)
+  all_rows = rows w (built (start folding) es).clauses literals es (start folding) literals sc r.gates choice r.given (All-contains_itself literals) (λ d i. i) (inr truth_forced, tt)
 
-  each : (x : ℕ) → x < (built start es).vars → Contains (map variable_of (row_of w (built start es).vars)) x
+  each : (x : ℕ) → x < (built (start folding) es).vars → Contains (map variable_of (row_of w (built (start folding) es).vars)) x
   each x lt =
-      subst (Contains (map variable_of (row_of w (built start es).vars))) (variable_of-true_of w x)
-      (Contains-map variable_of (row_of w (built start es).vars) (true_of w x) (Contains-row_of w (built start es).vars x lt))
+      subst (Contains (map variable_of (row_of w (built (start folding) es).vars))) (variable_of-true_of w x)
+      (Contains-map variable_of (row_of w (built (start folding) es).vars) (true_of w x) (Contains-row_of w (built (start folding) es).vars x lt))

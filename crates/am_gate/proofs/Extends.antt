@@ -55,14 +55,17 @@ module _ (v : ℕ → Bool) (g : ℕ) (b : Bool) (es : List Event) (literals : L
   same_literal : (l : ℕ) → variable_of l < g → literal_value r.values l ≡ literal_value v l
   same_literal l lt = literal_value-agree v r.values l (below_gate (variable_of l) lt)
 
+-- the first literal, or none
 abbrev pub head_or : ℕ → List ℕ → ℕ
 head_or d [] = d
 head_or d (x ∷ xs) = x
 
+-- the other literals
 abbrev pub tail_of : List ℕ → List ℕ
 tail_of [] = []
 tail_of (x ∷ xs) = xs
 
+-- the values of the inputs extend to values that all gates meet
 pub extended : (v : ℕ → Bool) (g : ℕ) (es : List Event) (literals : List ℕ) → AreScoped g es → IsChoice (inputs_of g es) literals → Extended v g es literals
 unfolding Meets
 extended v g [] [] s c = record { values = v; below = λ x l. refl; given = All-nil (λ l. IsTrue (literal_value v l)); gates = tt }

@@ -1,4 +1,3 @@
-pub mod Opposites
 pub mod Sorting
 pub mod Rows
 pub mod Normals
@@ -6,5 +5,13 @@ pub mod Meaning
 pub mod Extends
 pub mod Determined
 pub mod Growth
+pub mod Folds
 pub mod Building
 pub mod Scoping
+pub mod Making
+pub mod Giving
+pub mod Reaching
+pub mod Inputs
+pub mod Made
+pub mod Valued
+pub mod Laws

@@ -10,8 +10,8 @@ use Rattle.std.proofs.lemmas.List.Sums.{AllPass-from_list_all, list_all-from_All
 use Rattle.am_lit.specs.Clause.{sorted_literals}
 use Rattle.am_lit.specs.Literal.{opposite_of}
 use Rattle.am_lit.specs.Truth.{literal_value, clause_value, Satisfies}
-use Rattle.am_lit.proofs.Rising.{clause_value-sorted_literals}
-use Rattle.am_lit.proofs.Truths.{literal_value-opposite_of}
+use Rattle.am_lit.proofs.Laws.{clause_value-sorted_literals}
+use Rattle.am_lit.proofs.Laws.{literal_value-opposite_of}
 use Rattle.am_gate.specs.Circuit.{Event, Event.Input, Event.And, Event.Xor, Event.Mux, Event.Clause, Net, clauses_of, is_tautology, added, after, built, start}
 use Rattle.am_gate.specs.Value.{Holds, Meets}
 use Rattle.am_gate.proofs.Sorting.{added_dropped, added_kept, tautology_parts}
@@ -23,6 +23,7 @@ literal_value-even v g =
     let half : (2 * g) / 2 ≡ g = omega arith in
     rw (rest, half) refl
 
+-- and its opposite the other one
 pub literal_value-odd : (v : ℕ → Bool) (g : ℕ) → literal_value v (2 * g + 1) ≡ not (v g)
 literal_value-odd v g =
     let rest : (2 * g + 1) % 2 ≡ 1 = omega arith in
@@ -125,14 +126,18 @@ module _ (v : ℕ → Bool) where
   built_to n (e ∷ es) h m =
       built_to (after n e) es (all_hold-after n e ∙ and_from _ _ h (Holds_to n.vars e m.0)) m.1
 
-  all_hold-start : all_hold start.clauses ≡ v 0
+  -- where the clauses of a circuit hold, its gates have their values
+  pub Meets-built : (n : Net) (es : List Event) → Satisfies v (built n es).clauses → Meets v n.vars es
+  Meets-built n es h = (built_from n es (list_all-from_AllPass (clause_value v) (built n es).clauses h)).1
+
+  all_hold-start : all_hold (start false).clauses ≡ v 0
   all_hold-start = and-true (v 0 || false) ∙ or-false (v 0)
 
   -- the clauses of a circuit that events made
-  pub Satisfies-built : (es : List Event) → Satisfies v (built start es).clauses ↔ (IsTrue (v 0) × Meets v 1 es)
-  Satisfies-built es = (
+  pub Satisfies-built : (folding : Bool) (es : List Event) → Satisfies v (built (start folding) es).clauses ↔ (IsTrue (v 0) × Meets v 1 es)
+  Satisfies-built folding es = (
     (λ h.
-        let parts = built_from start es (list_all-from_AllPass (clause_value v) (built start es).clauses h) in
+        let parts = built_from (start folding) es (list_all-from_AllPass (clause_value v) (built (start folding) es).clauses h) in
         (sym all_hold-start ∙ parts.0, parts.1)),
-    (λ h. AllPass-from_list_all (clause_value v) (built start es).clauses (built_to start es (all_hold-start ∙ h.0) h.1)),
+    (λ h. AllPass-from_list_all (clause_value v) (built (start folding) es).clauses (built_to (start folding) es (all_hold-start ∙ h.0) h.1)),
   )

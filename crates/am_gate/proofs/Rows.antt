@@ -8,7 +8,7 @@ use Rattle.std.proofs.lemmas.List.Kept.{AllPairs-from_increasing}
 use Rattle.std.proofs.lemmas.List.Sorted.{Contains-permutation, IsPermutation-append_comm, IsPermutation-append_left, IsPermutation-sym, IsPermutation-to_front}
 use Rattle.am_lit.specs.Clause.{sorted_literals}
 use Rattle.am_lit.specs.Literal.{opposite_of, variable_of}
-use Rattle.am_lit.proofs.Rising.{Contains-sorted_literals, IsStrictlyIncreasing-sorted_literals}
+use Rattle.am_lit.proofs.Laws.{Contains-sorted_literals, IsStrictlyIncreasing-sorted_literals}
 use Rattle.am_gate.specs.Circuit.{Event.And, Event.Xor, added, clauses_of, is_tautology}
 use Rattle.am_gate.proofs.Sorting.{added_dropped, added_kept, no_tautology, same_rising, tautology_at}
 
@@ -25,6 +25,7 @@ added-permutation c d p = rw same refl where
         (λ h. (Contains-sorted_literals c z).1 (Contains-permutation d c z (IsPermutation-sym c d p) ((Contains-sorted_literals d z).0 h))),
       ))
 
+-- the order of two literals of a row doesn't matter
 pub added_swapped : (x y g : ℕ) → added (y ∷ x ∷ g ∷ []) ≡ added (x ∷ y ∷ g ∷ [])
 added_swapped x y g = added-permutation (y ∷ x ∷ g ∷ []) (x ∷ y ∷ g ∷ []) (IsPermutation-append_left (g ∷ []) (y ∷ x ∷ []) (x ∷ y ∷ []) (IsPermutation-append_comm (y ∷ []) (x ∷ [])))
 
@@ -33,12 +34,14 @@ added_from_front g c = added-permutation (c ++ g ∷ []) (g ∷ c) (IsPermutatio
 
 -- the clauses of gates with the gate's literal at their ends
 
+-- the rows of a conjunction
 pub rows_of-and : (g a b : ℕ) →
     flat_map added ((a ∷ opposite_of g ∷ []) ∷ (b ∷ opposite_of g ∷ []) ∷ (opposite_of a ∷ opposite_of b ∷ g ∷ []) ∷ [])
     ≡ flat_map added (clauses_of g (And a b))
 rows_of-and g a b =
     rw (added_from_front (opposite_of g) (a ∷ []), added_from_front (opposite_of g) (b ∷ []), added_from_front g (opposite_of a ∷ opposite_of b ∷ [])) refl
 
+-- the rows of an exclusive or
 pub rows_of-xor : (g a b : ℕ) →
     flat_map added ((a ∷ b ∷ opposite_of g ∷ []) ∷ (opposite_of a ∷ opposite_of b ∷ opposite_of g ∷ []) ∷ (opposite_of a ∷ b ∷ g ∷ []) ∷ (a ∷ opposite_of b ∷ g ∷ []) ∷ [])
     ≡ flat_map added (clauses_of g (Xor a b))
@@ -86,9 +89,11 @@ module _ (c : List ℕ) where
 
   -- sorted literals are added where their variables rise, and are a tautology elsewhere
 
+  -- a row over different variables is added in order
   pub added_sorted : IsStrictlyIncreasing (map variable_of (sorted_literals c)) → added c ≡ sorted_literals c ∷ []
   added_sorted rise = added_kept c (no_tautology (sorted_literals c) (IsStrictlyIncreasing-sorted_literals c) (λ k lt e. let up = rise_at (sorted_literals c) rise k lt in omega arith))
 
+  -- a row that holds a variable twice isn't added
   pub added_nothing : ¬ (IsStrictlyIncreasing (map variable_of (sorted_literals c))) → added c ≡ []
   added_nothing falls = added_dropped c (go (is_tautology (sorted_literals c)) refl) where
     rising : IsStrictlyIncreasing (sorted_literals c)

@@ -13,10 +13,10 @@ use Rattle.std.proofs.lemmas.List.Sorted.{Contains-permutation, IsPermutation-sy
 use Rattle.std.proofs.lemmas.Map.Keys.{IsStrictlyIncreasing-dedup}
 use Rattle.am_lit.specs.Clause.{sorted_literals}
 use Rattle.am_lit.specs.Literal.{opposite_of, variable_of}
-use Rattle.am_lit.proofs.Members.{Contains-head, Contains-tail, Contains-nil, Contains-cons_cases, AllPairs-head, AllPairs-tail}
-use Rattle.am_lit.proofs.Rising.{Contains-sorted_literals, IsStrictlyIncreasing-sorted_literals}
+use Rattle.am_lit.proofs.Laws.{Contains-head, Contains-tail, Contains-nil, Contains-cons_cases, AllPairs-head, AllPairs-tail}
+use Rattle.am_lit.proofs.Laws.{Contains-sorted_literals, IsStrictlyIncreasing-sorted_literals}
 use Rattle.am_gate.specs.Circuit.{added, is_tautology}
-use Rattle.am_gate.proofs.Opposites.{opposite_parts, variable_of-opposite_of}
+use Rattle.am_lit.proofs.Laws.{opposite_parts, variable_of-opposite_of}
 
 -- each code is below those after it
 abbrev pub Rises : List ℕ → Type 0
@@ -74,11 +74,13 @@ contains_from c l t =
 contains_to : (c : List ℕ) (l : ℕ) → Contains c l → list_any (eqb l) c ≡ true
 contains_to c l h = list_any-from_Any (eqb l) c (h.0, l, h.1, h.2, eq-eqb l l refl)
 
+-- a clause that holds a literal and its opposite is a tautology
 pub tautology_from : (c : List ℕ) (l : ℕ) → Contains c l → Contains c (opposite_of l) → is_tautology c ≡ true
 unfolding is_tautology
 tautology_from c l h k =
     list_any-from_Any (λ m. list_any (eqb (opposite_of m)) c) c (h.0, l, h.1, h.2, contains_to c (opposite_of l) k)
 
+-- a tautology holds a literal and its opposite
 pub tautology_parts : (c : List ℕ) → is_tautology c ≡ true → (l : ℕ) × Contains c l × Contains c (opposite_of l)
 unfolding is_tautology
 tautology_parts c t =
@@ -136,10 +138,12 @@ module _ (c : List ℕ) (rises : IsStrictlyIncreasing c) where
     go false e = e
     go true e = let pair = tautology_parts c e in absurd (both pair.0 pair.1 pair.2)
 
+-- a clause that is no tautology is added in order
 pub added_kept : (c : List ℕ) → is_tautology (sorted_literals c) ≡ false → added c ≡ sorted_literals c ∷ []
 unfolding added
 added_kept c e = rw e refl
 
+-- a tautology isn't added
 pub added_dropped : (c : List ℕ) → is_tautology (sorted_literals c) ≡ true → added c ≡ []
 unfolding added
 added_dropped c e = rw e refl

@@ -1,13 +1,15 @@
 -- How circuits are put together: steps, which ask for inputs and gates and state clauses, one after
 -- another.
-use Rattle.std.specs.Prelude.{ℕ, ◌≡◌, ◌+◌, Bool, false, List, [], ◌∷◌, ◌++◌, IsTrue}
+use Rattle.std.specs.Prelude.{ℕ, ◌≡◌, ◌+◌, Bool, false, Option, None, Some, List, [], ◌∷◌, ◌++◌, IsTrue}
 use Rattle.am_lit.specs.Literal.{literal_of}
-use Rattle.am_gate.specs.Circuit.{Event, Event.Input, Event.And, Event.Xor, Event.Mux, Event.Clause, Net, makes, built, AreScoped}
+use Rattle.am_gate.specs.Circuit.{Event, Event.Input, Event.And, Event.Xor, Event.Mux, Event.Clause, Net, makes, built}
+use Rattle.am_gate.specs.Folding.{folded_in}
 use Rattle.am_gate.specs.Value.{Meets}
 
--- where a step begins: the next variable
+-- where a step begins: the next variable, and whether gates fold there
 pub record Place : Type 0 where
   pub next : ℕ
+  pub folding : Bool
 
 -- what a step gives, and the events that it makes
 pub record Made (A : Type 0) : Type 0 where
@@ -32,25 +34,30 @@ unfoldable pub ◌>>=◌ : {A B : Type 0} → Step A → (A → Step B) → Step
 unfoldable pub answer : {A : Type 0} → A → Step A
 answer a p = record { value = a; events = [] }
 
--- an input or a gate: the literal of its variable
+-- a literal without events, or an event and the literal of its variable
+abbrev pub made_or : Option ℕ → Event → ℕ → Made ℕ
+made_or None e g = record { value = literal_of g false; events = e ∷ [] }
+made_or (Some l) e g = record { value = l; events = [] }
+
+-- an input or a gate: the literal that it folds to, else that of its variable
 unfoldable pub ask : Event → Step ℕ
-ask e p = record { value = literal_of p.next false; events = e ∷ [] }
+ask e p = made_or (folded_in p.folding e) e p.next
 
 -- a clause that is forced to hold
 unfoldable pub tell : List ℕ → Step (Unit {0})
 tell literals p = record { value = tt; events = Clause literals ∷ [] }
 
 abbrev pub place_of : Net → Place
-place_of n = record { next = n.vars }
+place_of n = record { next = n.vars; folding = n.folding }
 
 -- a call gave what a step gives, and made what it makes
-unfoldable pub Follows : {A : Type 0} → Step A → Net → A → Net → Type 0
-Follows m old result new =
-    (result ≡ (m (place_of old)).value) × (new ≡ built old (m (place_of old)).events)
+pub record Follows {A : Type 0} (m : Step A) (old : Net) (result : A) (new : Net) : Type 0 where
+  pub value : result ≡ (m (place_of old)).value
+  pub circuit : new ≡ built old (m (place_of old)).events
 
 -- wherever variable 0 is true and the events of the step are met, its value is as P says
-unfoldable pub Means : {A : Type 0} → (ℕ → Bool) → Step A → (A → Type 0) → Type 0
-Means v m P = (p : Place) → IsTrue (v 0) → Meets v p.next (m p).events → P (m p).value
+pub record Means {A : Type 0} (v : ℕ → Bool) (m : Step A) (P : A → Type 0) : Type 0 where
+  pub holds : (p : Place) → IsTrue (v 0) → Meets v p.next (m p).events → P (m p).value
 
 -- the events are gates: no input, and no clause
 abbrev pub AreGates : List Event → Type 0
@@ -60,10 +67,3 @@ AreGates (And a b ∷ es) = AreGates es
 AreGates (Xor a b ∷ es) = AreGates es
 AreGates (Mux c a b ∷ es) = AreGates es
 AreGates (Clause literals ∷ es) = ⊥
-
--- the step makes gates, each over earlier variables, and Q says where its value stands
-unfoldable pub Scopes : {A : Type 0} → Step A → Place → (Place → A → Type 0) → Type 0
-Scopes m p Q =
-    AreScoped p.next (m p).events
-    × AreGates (m p).events
-    × Q (past p (m p).events) (m p).value

@@ -50,10 +50,11 @@ makes (Xor a b) = 1
 makes (Mux c a b) = 1
 makes (Clause literals) = 0
 
--- a circuit as contracts see it
+-- a circuit as contracts see it; whether its gates fold is its form
 pub record Net : Type 0 where
   pub vars : ℕ
   pub clauses : List (List ℕ)
+  pub folding : Bool
 
 -- the literal that is true, and its opposite
 abbrev pub truth : ℕ
@@ -62,13 +63,13 @@ truth = 0
 abbrev pub falsity : ℕ
 falsity = 1
 
--- a new circuit: one variable, which is forced to be true
-abbrev pub start : Net
-start = record { vars = 1; clauses = (truth ∷ []) ∷ [] }
+-- a new circuit of a form: one variable, which is forced to be true
+abbrev pub start : Bool → Net
+start folding = record { vars = 1; clauses = (truth ∷ []) ∷ []; folding = folding }
 
 -- the circuit after an event
 unfoldable pub after : Net → Event → Net
-after n e = record {
+after n e = record n {
   vars = n.vars + makes e;
   clauses = n.clauses ++ flat_map added (clauses_of (literal_of n.vars false) e);
 }
@@ -77,6 +78,10 @@ after n e = record {
 unfoldable pub built : Net → List Event → Net
 built n [] = n
 built n (e ∷ es) = built (after n e) es
+
+-- a literal of a variable below a number
+abbrev pub IsLiteral : ℕ → ℕ → Type 0
+IsLiteral vars l = variable_of l < vars
 
 -- the literals over which an event is made
 abbrev pub literals_of : Event → List ℕ
@@ -89,9 +94,9 @@ literals_of (Clause literals) = literals
 -- each event is made over variables that were there before it; g is the next variable
 abbrev pub AreScoped : ℕ → List Event → Type 0
 AreScoped g [] = Unit {0}
-AreScoped g (e ∷ es) = All (λ l. variable_of l < g) (literals_of e) × AreScoped (g + makes e) es
+AreScoped g (e ∷ es) = All (IsLiteral g) (literals_of e) × AreScoped (g + makes e) es
 
--- the variables that inputs made
+-- the variables that inputs made; g is the next variable
 abbrev pub inputs_of : ℕ → List Event → List ℕ
 inputs_of g [] = []
 inputs_of g (Input ∷ es) = g ∷ inputs_of (g + 1) es
@@ -100,14 +105,17 @@ inputs_of g (Xor a b ∷ es) = inputs_of (g + 1) es
 inputs_of g (Mux c a b ∷ es) = inputs_of (g + 1) es
 inputs_of g (Clause literals ∷ es) = inputs_of g es
 
+-- events made the circuit from the start, each over earlier variables, and these are its inputs' variables
+pub record HasInputs (inputs : List ℕ) (n : Net) : Type 0 where
+  pub events : List Event
+  pub circuit : n ≡ built (start n.folding) events
+  pub scoped : AreScoped 1 events
+  pub variables : inputs_of 1 events ≡ inputs
+
 -- what every circuit is: a formula over its variables, one of which is the true one
 pub record IsCircuit (n : Net) : Type 0 where
   pub truth : 0 < n.vars
   pub normal : IsFormula n.clauses n.vars
-
--- a literal's variable is one of the circuit's
-abbrev pub IsIn : Net → ℕ → Type 0
-IsIn n l = variable_of l < n.vars
 
 -- there is room for k more gates
 pub record HasRoom (k : ℕ) (n : Net) : Type 0 where
@@ -120,7 +128,8 @@ pub record Grows (k : ℕ) (old new : Net) : Type 0 where
   pub vars : new.vars ≤ old.vars + k
   pub clauses : length new.clauses ≤ length old.clauses + 4 * k
 
--- a circuit has all variables and clauses of an earlier one first
+-- a circuit has the form of an earlier one, and its variables and clauses first
 pub record Begins (old new : Net) : Type 0 where
+  pub folding : new.folding ≡ old.folding
   pub vars : old.vars ≤ new.vars
   pub clauses : (rest : List (List ℕ)) × (new.clauses ≡ old.clauses ++ rest)

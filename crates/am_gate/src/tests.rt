@@ -1,6 +1,9 @@
+//! Tests.
+
 ghost use Rattle.std.specs.Prelude.{◌≡◌};
 
 use crate::Circuit;
+use crate::circuit_laws::two_that_differ;
 use am_lit::{Formula, Lit};
 use std::test::Fail;
 
@@ -118,6 +121,80 @@ fn clauses_are_sorted_without_repeats_and_tautologies(rt: HostRuntime) -> Result
                 &[3, 4],
                 &[],
             ]
+        )
+    );
+    Ok(())
+}
+
+#[test]
+fn ands_fold(rt: HostRuntime) -> Result<(), Fail> {
+    let mut circuit = Circuit::new_folding(rt.alloc())?;
+    let a = circuit.input()?;
+    let on = circuit.truth();
+    let off = on.opposite();
+    assert_eq!(rt; circuit.and(a, off)?.code(), 1);
+    assert_eq!(rt; circuit.and(on, a)?.code(), 2);
+    assert_eq!(rt; circuit.and(a, on)?.code(), 2);
+    assert_eq!(rt; circuit.and(a, a)?.code(), 2);
+    assert_eq!(rt; circuit.and(a, a.opposite())?.code(), 1);
+    assert_eq!(rt; circuit.finish().vars, 2);
+    Ok(())
+}
+
+#[test]
+fn xors_fold(rt: HostRuntime) -> Result<(), Fail> {
+    let mut circuit = Circuit::new_folding(rt.alloc())?;
+    let a = circuit.input()?;
+    let on = circuit.truth();
+    let off = on.opposite();
+    assert_eq!(rt; circuit.xor(off, a)?.code(), 2);
+    assert_eq!(rt; circuit.xor(a, off)?.code(), 2);
+    assert_eq!(rt; circuit.xor(on, a)?.code(), 3);
+    assert_eq!(rt; circuit.xor(a, on)?.code(), 3);
+    assert_eq!(rt; circuit.xor(a, a)?.code(), 1);
+    assert_eq!(rt; circuit.xor(a, a.opposite())?.code(), 0);
+    assert_eq!(rt; circuit.finish().vars, 2);
+    Ok(())
+}
+
+#[test]
+fn muxes_fold(rt: HostRuntime) -> Result<(), Fail> {
+    let mut circuit = Circuit::new_folding(rt.alloc())?;
+    let a = circuit.input()?;
+    let on = circuit.truth();
+    let off = on.opposite();
+    assert_eq!(rt; circuit.mux(on, a, off)?.code(), 2);
+    assert_eq!(rt; circuit.mux(off, on, a)?.code(), 2);
+    assert_eq!(rt; circuit.mux(a, off, off)?.code(), 1);
+    assert_eq!(rt; circuit.mux(a, on, off)?.code(), 2);
+    assert_eq!(rt; circuit.mux(a, off, on)?.code(), 3);
+    assert_eq!(rt; circuit.finish().vars, 2);
+    Ok(())
+}
+
+#[test]
+fn other_gates_and_forced_literals_do_not_fold(rt: HostRuntime) -> Result<(), Fail> {
+    let mut circuit = Circuit::new_folding(rt.alloc())?;
+    let a = circuit.input()?;
+    let b = circuit.input()?;
+    let both = circuit.and(a, b)?;
+    let on = circuit.truth();
+    circuit.force(on)?;
+    circuit.force(both)?;
+    let formula = circuit.finish();
+    assert_eq!(rt; formula.vars, 4);
+    assert!(rt; has_clauses(&formula, &[&[0], &[2, 7], &[4, 7], &[3, 5, 6], &[0], &[6]]));
+    Ok(())
+}
+
+#[test]
+fn two_inputs_differ(rt: HostRuntime) -> Result<(), Fail> {
+    let formula = two_that_differ(rt.alloc())?;
+    assert_eq!(rt; formula.vars, 4);
+    assert!(rt;
+        has_clauses(
+            &formula,
+            &[&[0], &[2, 4, 7], &[3, 5, 7], &[3, 4, 6], &[2, 5, 6], &[6]]
         )
     );
     Ok(())

@@ -2,9 +2,7 @@ use Rattle.std.proofs.Common.{[], ◌≡◌, ◌+◌, ◌*◌, ◌<◌, ◌≤�
 use Rattle.std.proofs.lemmas.List.{length-reverse}
 use Rattle.am_gate.specs.Circuit.{falsity}
 use Rattle.am_gate.specs.Build.{place_of}
-use Rattle.am_gate.proofs.Growth.{Begins-trans}
-use Rattle.am_blast.specs.Division.{division}
-use Rattle.am_blast.proofs.Giving.{gives}
+use Rattle.am_gate.proofs.Laws.{Begins-trans, Gives-Follows}
 use Rattle.am_blast.proofs.Division.{room-round, Makes-division, Follows-division_from_at, Follows-division_from_end}
 use Rattle.am_blast.proofs.divide.division.Goals as goal
 
@@ -25,9 +23,9 @@ loop-l-preserved c =
 pub returns-clause-ok : goal.returns-clause-ok
 returns-clause-ok c =
     let past : length (reverse c.args.a.now) ≤ c.loop-l.l-index = rw (c.as_slice-l-items.ensures, c.in_ok-dividend.ensures) at c.loop-l-test.false in
-    gives (division c.args.a.now c.args.b.now) _ _ _ _ _
+    Gives-Follows
     (Makes-division (length c.args.a.now) c.args.a.now c.args.b.now (place_of c.args.circuit.now) (rw c.truth.ensures.truth at c.truth.ensures.inside)
-    (record { bits = refl; inside = c.requires.first }) (record { bits = c.requires.lengths; inside = c.requires.second }))
+    (record { bits = refl; inside = c.requires.words.first }) (record { bits = c.requires.words.lengths; inside = c.requires.words.second }))
     (rw (c.in_ok-quotient.ensures, c.as_slice-2.ensures)
     (c.loop-l.invariant.follows _ c.loop-l.circuit
     (Follows-division_from_end c.loop-l.l-index (reverse c.args.a.now) (reverse c.loop-l.from_top) c.loop-l.remainder (c.args.b.now ++ falsity ∷ []) c.loop-l.circuit past)))

@@ -7,6 +7,6 @@ returns-clause-ok c =
     rw (c.in_ok-low.ensures, c.as_slice.ensures)
     record {
       follows = Follows-remainder c.args.a.now c.args.b.now _ _ _ divided.follows;
-      given = IsWord-low _ _ _ _ c.requires.lengths divided.given.1;
+      given = IsWord-low _ _ _ _ c.requires.words.lengths divided.given.1;
       grows = divided.grows;
     }

@@ -1,8 +1,6 @@
 use Rattle.std.proofs.Common.{◌∷◌, append_assoc, append-nil, arith}
 use Rattle.am_gate.specs.Build.{place_of}
-use Rattle.am_gate.proofs.Growth.{Grows-trans, Begins-trans}
-use Rattle.am_blast.specs.Products.{each_and}
-use Rattle.am_blast.proofs.Giving.{gives}
+use Rattle.am_gate.proofs.Laws.{Grows-trans, Begins-trans, Gives-Follows}
 use Rattle.am_blast.proofs.Products.{Makes-each_and, Follows-each_and_at, Follows-each_and_end}
 use Rattle.am_blast.proofs.product.each_and.Goals as goal
 
@@ -17,6 +15,6 @@ loop-l-preserved c = record {
 
 pub returns-clause-ok : goal.returns-clause-ok
 returns-clause-ok c =
-    gives (each_and c.args.b c.args.word.now) _ _ _ _ _
+    Gives-Follows
     (Makes-each_and c.args.b c.args.word.now (place_of c.args.circuit.now) c.requires.literal c.requires.word)
     (rw append-nil at (c.loop-l.invariant.follows _ c.loop-l.circuit (Follows-each_and_end c.loop-l.l-index c.args.b c.args.word.now c.loop-l.circuit (omega arith))))

@@ -1,5 +1,6 @@
-use Rattle.am_blast.proofs.Words.{All-opposites}
+use Rattle.am_blast.proofs.Words.{AreWords-opposites}
 use Rattle.am_blast.proofs.sum.difference.Goals as goal
 
-pub sum-requires-clause-second : goal.sum-requires-clause-second
-sum-requires-clause-second c = rw (c.as_slice.ensures, c.in_ok-not_b.ensures) (All-opposites c.args.circuit.now.vars c.args.b.now c.requires.second)
+pub sum-requires-clause-words : goal.sum-requires-clause-words
+sum-requires-clause-words c =
+    rw (c.as_slice.ensures, c.in_ok-not_b.ensures) (AreWords-opposites c.args.circuit.now.vars c.args.a.now c.args.b.now c.requires.words)

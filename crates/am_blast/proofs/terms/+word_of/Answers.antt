@@ -5,15 +5,13 @@ use Rattle.std.proofs.lemmas.List.{take_all, get_or_default}
 use Rattle.std.proofs.lemmas.List.Sums.{sum_by_more, sum_by_more_le}
 use Rattle.std.proofs.lemmas.List.Elements.{All-push}
 use Rattle.std.proofs.lemmas.Result.{IfOk-weaker}
-use Rattle.am_gate.proofs.Building.{Follows-bind}
-use Rattle.am_gate.proofs.Growth.{Grows-trans, Begins-trans, HasRoom-grown, IsIn-grown}
+use Rattle.am_gate.proofs.Laws.{Follows-bind, Grows-trans, Begins-trans, HasRoom-grown, Gives-answer}
 use Rattle.am_bv.specs.Operators.{weight_of}
 use Rattle.am_bv.specs.Terms.{fits, nodes, weight}
 use Rattle.am_bv.specs.declared.term.Term.{the_lemmas}
 use Rattle.am_bv.proofs.Laws.{fits-Field, fits_arity, fits_child, nodes_up_to, weight-Const, weight-Field, weight-Node}
 use Rattle.am_blast.specs.Words.{IsWord, constant}
 use Rattle.am_blast.specs.Circuits.{blasted}
-use Rattle.am_blast.proofs.Giving.{gives_answer}
 use Rattle.am_blast.proofs.Words.{IsWord-later}
 use Rattle.am_blast.proofs.Blasted.{blasted-Const, blasted-Field, blasted-Node, length-constant, All-constant, Follows-in_turn_at, Follows-in_turn_end}
 use Rattle.am_blast.proofs.terms.+word_of.Goals as goal
@@ -45,7 +43,7 @@ word_of-requires t c =
             λ k d l. IsWord-later _ _ _ _ grows.not_less (c.requires.fields k d l),
             (
               HasRoom-grown (weight c.args.w item) grows c.requires.room part,
-              (c.requires.on, IsIn-grown c.args.on grows c.requires.inside),
+              omega (arith, grows.not_less, c.requires.truth),
             ),
           ),
         ),
@@ -85,11 +83,10 @@ apply-requires-clause-room t c =
 
 pub returns-in-Const-clause-ok : goal.returns-in-Const-clause-ok
 returns-in-Const-clause-ok t c =
-    let inside : 0 < c.args.circuit.now.vars = rw c.requires.on at c.requires.inside in
     rw (c.in-Const.is, blasted-Const c.args.w c.args.fields.now c.in-Const.c, weight-Const c.args.w c.in-Const.c)
     (IfOk-weaker c.constant.result (λ r. r ≡ constant c.args.w c.in-Const.c) _
-    (λ r e. rw e (gives_answer (constant c.args.w c.in-Const.c) (IsWord c.args.w) c.args.circuit.now
-    (record { bits = length-constant c.args.w c.in-Const.c; inside = All-constant c.args.w c.in-Const.c c.args.circuit.now.vars inside })))
+    (λ r e. rw e (Gives-answer
+    (record { bits = length-constant c.args.w c.in-Const.c; inside = All-constant c.args.w c.in-Const.c c.args.circuit.now.vars c.requires.truth })))
     c.constant.ensures)
 
 pub returns-in-Field-clause-ok : goal.returns-in-Field-clause-ok
@@ -102,7 +99,7 @@ returns-in-Field-clause-ok t c =
     let here : c.as_slice.result.now ≡ word = c.as_slice.ensures ∙ (c.index-fields-i.is ∙ get_or_default fields c.in-Field.i c.index-fields-i.result [] within) in
     rw (c.in-Field.is, blasted-Field c.args.w fields c.in-Field.i, weight-Field c.args.w c.in-Field.i)
     (IfOk-weaker c.copied.result (λ r. r ≡ c.as_slice.result.now) _
-    (λ r e. rw (e, here) (gives_answer word (IsWord c.args.w) c.args.circuit.now (c.requires.fields c.in-Field.i [] within)))
+    (λ r e. rw (e, here) (Gives-answer (c.requires.fields c.in-Field.i [] within)))
     c.copied.ensures)
 
 pub returns-after-loop-t-clause-ok : goal.returns-after-loop-t-clause-ok
@@ -116,7 +113,7 @@ returns-after-loop-t-clause-ok t c =
     rw (c.in-Node.is, blasted-Node c.args.w c.args.fields.now op args, weight-Node c.args.w op args)
     (IfOk-weaker c.apply.result _ _
     (λ r g. record {
-      follows = Follows-bind _ _ _ _ _ _ _ follows (rw c.as_slice-in-Node.ensures at g.follows);
+      follows = Follows-bind _ follows (rw c.as_slice-in-Node.ensures at g.follows);
       given = g.given;
       grows = Grows-trans _ grows g.grows (omega arith);
     })

@@ -1,0 +1,5 @@
+-- What the proofs of other crates may cite of this crate's lemmas.
+pub use Rattle.am_blast.proofs.Words.{bit-le, reads-lt, reads-zeros, reads-opposites, value-truth, value-falsity, All-later, All-zeros, All-opposites, IsWord-later, IsWord-zeros, IsWord-opposites, AreWords-alike, AreWords-swapped, AreWords-later, drop-from}
+pub use Rattle.am_blast.proofs.Bits.{Means-bitwise, Means-choose, Means-choice, Makes-bitwise, Makes-choice}
+pub use Rattle.am_blast.proofs.Table.{circuit}
+pub use Rattle.am_blast.proofs.Blasted.{Means-blasted, Makes-blasted, blasted-Const, blasted-Field, blasted-Node, length-constant, All-constant}

@@ -1,4 +1,0 @@
--- What search needs of circuits that grow.
-use Rattle.am_gate.proofs.Growth.{Begins-same, Begins-trans, Follows-Begins}
-
-pub ruleset begins = (Begins-same, Begins-trans, Follows-Begins)
