@@ -1,0 +1,11 @@
+pub mod Terms
+pub mod Offers
+pub mod Loops
+pub mod Inside
+pub mod Formed
+pub mod Counted
+pub mod Bounds
+pub mod Totals
+pub mod Derivations
+pub mod Matched
+pub mod Laws

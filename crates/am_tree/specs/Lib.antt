@@ -1,0 +1,6 @@
+pub mod Counts
+pub mod Grammars
+pub mod Slots
+pub mod Trees
+pub mod Weights
+pub mod inside

@@ -1,0 +1,4 @@
+pub mod Counted
+pub mod Formed
+pub mod Matched
+pub mod Totals
