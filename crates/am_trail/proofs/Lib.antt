@@ -1,0 +1,9 @@
+pub mod Placing
+pub mod Entries
+pub mod Leading
+pub mod Before
+pub mod Heaping
+pub mod Held
+pub mod Ranking
+pub mod Fewer
+pub mod Laws

@@ -1,0 +1,3 @@
+pub mod Trails
+pub mod Orders
+pub mod inside

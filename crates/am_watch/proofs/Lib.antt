@@ -1,0 +1,12 @@
+pub mod Rows
+pub mod Open
+pub mod Parts
+pub mod Keeping
+pub mod Turning
+pub mod Extending
+pub mod Visiting
+pub mod Sweeping
+pub mod Looking
+pub mod Adding
+pub mod Going
+pub mod Laws

@@ -1,0 +1,8 @@
+-- The invariant, said of the struct that keeps it.
+use Rattle.std.specs.Prelude.{ℕ, List}
+use Rattle.am_trail.specs.Trails.{Assigned}
+use Rattle.am_watch.specs.declared.watches.Watches.{Watches}
+use Rattle.am_watch.specs.Watching.{Keeps}
+
+abbrev pub IsKept : Watches → List (List ℕ) → Assigned → Type 0
+IsKept w clauses t = Keeps w.lists w.pairs.items w.fresh.items clauses t
