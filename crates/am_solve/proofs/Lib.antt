@@ -1,0 +1,17 @@
+pub mod Counting
+pub mod Resolving
+pub mod Deriving
+pub mod Marked
+pub mod Starting
+pub mod Settling
+pub mod Searching
+pub mod Unique
+pub mod Newness
+pub mod Levels
+pub mod Greatest
+pub mod Decisions
+pub mod Learning
+pub mod Branching
+pub mod Valuing
+pub mod Answering
+pub mod Ready

@@ -1,0 +1,78 @@
+//! The public call.
+
+ghost use Rattle.std.specs.Prelude.{◌≡◌, ◌+◌, ◌^◌, ◌<◌, ◌≤◌, ◌↔◌, ℕ, List, [], All, length, IfOk, IsTrue, true};
+ghost use Rattle.std.specs.List.Sorted.{IsStrictlyIncreasing};
+ghost use Rattle.am_lit.specs.UnitRow.{Determines, IsUnitRow, MeetsConflict};
+ghost use Rattle.am_solve.specs.Answers.{IsAnswer, IsSpent};
+
+use crate::answer::Answer;
+use crate::assignment::assignment_of;
+use crate::search::Search;
+use am_lit::Formula;
+use std::alloc::{AllocError, Global};
+
+/// Whether a limit is at least 3 to a power.
+fn is_enough(limit: u64, power: usize) -> bool
+    requires { power < 2 ^ 32 }
+    ensures { IsTrue result ↔ 3 ^ power ≤ limit }
+{
+    match 3u64.checked_pow(power as u32) {
+        Some(least) => least <= limit,
+        None => false,
+    }
+}
+
+/// The variables that are decided first: those of the base where the search works over it, and
+/// else none.
+fn preferred(base: &[u32], over_base: bool) -> &[u32]
+    ensures base { over_base ≡ true → result.now ≡ base.now }
+    ensures below { (vars : ℕ) → All (λ v. v < vars) base.now → All (λ v. v < vars) result.now }
+{
+    if over_base { base } else { &base[..0] }
+}
+
+/// Looks for an assignment that satisfies every clause of a formula, and logs a chain for each clause
+/// that it learns, at most `limit` of them.
+///
+/// `base` lists variables, in order of their numbers, that determine the formula by unit propagation,
+/// as the inputs of a circuit do, or else all variables. The answer is right for every base. Where 3
+/// to the number of its variables is at most the limit, they are decided first, and learnt clauses
+/// have decided literals alone; then a base that determines the formula is enough for the limit.
+///
+/// After an error there was no memory, and nothing is known of the formula.
+pub fn solve(
+    alloc: Global,
+    formula: &Formula,
+    base: &[u32],
+    limit: u64,
+) -> Result<Answer, AllocError>
+    requires least { 1 ≤ limit }
+    requires most { limit ≤ 2 ^ 30 }
+    requires vars { formula.now.vars < 2 ^ 30 }
+    requires clauses { length formula.now.clauses < 2 ^ 31 }
+    requires rises { IsStrictlyIncreasing base.now }
+    requires below { All (λ v. v < formula.now.vars) base.now }
+    ensures answer { IfOk result (IsAnswer formula.now.clauses formula.now.vars limit) }
+    ensures enough { IfOk result (λ a. Determines formula.now.clauses formula.now.vars base.now
+        → 3 ^ length base.now ≤ limit → ¬ (IsSpent a)) }
+    ensures conflict { IfOk result (λ a. (row : List ℕ) → IsUnitRow formula.now.clauses [] row
+        → MeetsConflict formula.now.clauses row → ¬ (IsSpent a)) }
+{
+    let over_base = is_enough(limit, base.len());
+    let first = preferred(base, over_base);
+    let mut search = Search::new(alloc, formula)?;
+    for conflicts in 0..limit {
+        let Some(conflict) = search.descend(formula, first)? else {
+            let assignment = assignment_of(alloc, &search.trail, formula.vars)?;
+            return Ok(Answer::Sat(assignment));
+        };
+        if search.trail.level() == 0 {
+            search.refute(alloc, &formula.clauses, conflict)?;
+            return Ok(Answer::Unsat(search.log));
+        }
+        search.learn_from(alloc, &formula.clauses, conflict, over_base)?;
+        search.choice.age(conflicts + 1);
+        search.restart(&formula.clauses, conflicts + 1);
+    }
+    Ok(Answer::Spent(search.log))
+}
