@@ -1,0 +1,2 @@
+mod Hulls
+mod Ranks

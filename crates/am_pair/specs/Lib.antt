@@ -1,0 +1,4 @@
+pub mod Pairs
+pub mod Theorems
+pub mod inside
+pub mod lemmas

@@ -1,0 +1,5 @@
+pub mod Parts
+pub mod Walks
+pub mod Commons
+pub mod Terms
+pub mod PairLaws

@@ -1,0 +1,106 @@
+-- The common words of two parts, and the join of their values.
+use Rattle.std.proofs.Common.{◌≡◌, ℕ, zero, suc, ◌+◌, ◌^◌, ◌<◌, ◌≤◌, ◌↔◌, Bool, true, false, cond, IsTrue, List, [], ◌∷◌, ◌++◌, length, slice_index, get_or, inl, inr, refl, sym, ap, ◌∙◌, subst, arith, rules, MatchOption, lit<}
+use Rattle.std.specs.Prelude.{All, AllPairs, Contains, filter, fold}
+use Rattle.std.specs.declared.option.Option.{Option}
+use Rattle.std.specs.declared.option.Option.TheVariants.{Some, None}
+use Rattle.std.proofs.lemmas.List.Elements.{All-cons, All-contains, All-filter, All-contains_itself, filter_passes}
+use Rattle.std.specs.Option.{ForSome}
+use Rattle.std.proofs.lemmas.List.Sums.{fold-append}
+use Rattle.std.proofs.lemmas.List.Kept.{AllPairs-filter}
+use Rattle.am_bv.specs.Words.{IsWidth}
+use Rattle.am_bv.specs.declared.term.Term.{Term}
+use Rattle.am_domain.specs.Tuple.{IsTuple}
+use Rattle.am_domain.specs.Meaning.{Meaning, IsAbstract}
+use Rattle.am_domain.specs.Walk.{steps, walk}
+use Rattle.am_domain.specs.Laws.{HoldsWords, JoinsAbove, Tidies, TellsMembership, is_member}
+use Rattle.am_domain.specs.AnchoredLaws.{WalksMembers, HasParts}
+use Rattle.am_domain.proofs.Laws.{is_member-tells}
+use Rattle.am_pair.specs.Pairs.{first, second, pairs, common, last_of, join_of_words, hull_of_words, tidy_parts}
+use Rattle.am_pair.specs.Theorems.{CommonAreMembersOfBoth}
+use Rattle.am_pair.specs.lemmas.Parts.{parts, as_first, of_first, value, member}
+
+-- what passes a filter
+Contains-filter : (p : ℕ → Bool) (xs : List ℕ) (c : ℕ) → Contains xs c → p c ≡ true → Contains (filter p xs) c
+Contains-filter p [] c found passes = absurd (omega (arith, found.1))
+Contains-filter p (x ∷ xs) c found passes = at (λ k below e. Contains-filter p xs c (k, below, e) passes) (p x) refl found.0 found.1 found.2
+  where
+    at : (later : (k : ℕ) → k < length xs → get_or xs k c ≡ c → Contains (filter p xs) c) (t : Bool) → p x ≡ t → (k : ℕ) → k < length (x ∷ xs) → get_or (x ∷ xs) k c ≡ c → Contains (cond t (x ∷ filter p xs) (filter p xs)) c
+    at later true e zero below is = (zero, omega arith, is)
+    at later true e (suc k) below is = let rest = later k (omega arith) is in (suc rest.0, omega (arith, rest.1), rest.2)
+    at later false e zero below is = let no : true ≡ false = sym passes ∙ ap p (sym is) ∙ e in cc
+    at later false e (suc k) below is = later k (omega arith) is
+
+-- The last of words that a measure grows along.
+module _ (f : ℕ → ℕ) where
+  abbrev Grows : List ℕ → Type 0
+  Grows = AllPairs (λ c d. f c < f d)
+
+  -- the measure of the last is the greatest
+  pub last-most : (c : ℕ) (words : List ℕ) → Grows (c ∷ words) → All (λ d. f d ≤ f (last_of c words)) (c ∷ words)
+  last-most c [] grows = All-cons (λ d. f d ≤ f c) c [] (omega arith) (λ i d below. absurd (omega arith))
+  last-most c (d ∷ words) grows =
+      let rest = last-most d words (λ i j e order below. grows (suc i) (suc j) e (omega arith) (omega arith)) in
+      let next : f c < f d = grows 0 1 0 (omega arith) (omega arith) in
+      let at : f d ≤ f (last_of d words) = rest 0 0 (omega arith) in
+      All-cons (λ e. f e ≤ f (last_of d words)) c (d ∷ words) (omega (arith, next, at)) rest
+
+  -- and that of the first is the least
+  pub first-least : (c : ℕ) (words : List ℕ) → Grows (c ∷ words) → All (λ d. f c ≤ f d) (c ∷ words)
+  first-least c words grows zero d below = omega arith
+  first-least c words grows (suc i) d below = let more : f c < f (get_or words i d) = grows 0 (suc i) d (omega arith) below in omega (arith, more)
+
+-- the last of some words is one of them
+pub last-contains : (c : ℕ) (words : List ℕ) → Contains (c ∷ words) (last_of c words)
+last-contains c [] = (zero, omega arith, refl)
+last-contains c (d ∷ words) = let rest = last-contains d words in (suc rest.0, omega (arith, rest.1), rest.2)
+
+-- The join of the values of words.
+module _ (b : Meaning) (of_word : ℕ → ℕ → List ℕ) (join : ℕ → List ℕ → List ℕ → List ℕ) (holds : HoldsWords b of_word) (above : JoinsAbove b join)
+    (w : ℕ) (width : IsWidth w) where
+  -- a value of which all these words are members
+  pub record HasWords (v : List ℕ) (words : List ℕ) : Type 0 where
+    pub value : IsAbstract b w v
+    pub all : All (λ d. b.Member w v d) words
+
+  -- joining further words to a value keeps its members and adds the words
+  joined : (v : List ℕ) (words : List ℕ) → IsAbstract b w v → All (λ d. d < 2 ^ w) words →
+      let all = fold (λ v d. join w v (of_word w d)) v words in
+      HasWords all words × ((e : ℕ) → e < 2 ^ w → b.Member w v e → b.Member w all e)
+  joined v [] hv below = (record { value = hv; all = λ i d h. absurd (omega arith) }, λ e h m. m)
+  joined v (d ∷ words) hv below =
+      let word = holds w width d (below 0 d (omega arith)) in
+      let step = above w width v (of_word w d) hv word.0 in
+      let rest = joined (join w v (of_word w d)) words step.value (λ i e h. below (suc i) e (omega arith)) in (
+        record {
+          value = rest.0.value;
+          all = All-cons (λ e. b.Member w (fold (λ v d. join w v (of_word w d)) (join w v (of_word w d)) words) e) d words
+              (rest.1 d (below 0 d (omega arith)) (step.second d (below 0 d (omega arith)) word.1)) rest.0.all;
+        },
+        λ e h m. rest.1 e h (step.first e h m),
+      )
+
+  -- the join of the values of words has the words
+  pub join-has : (c : ℕ) (words : List ℕ) → All (λ d. d < 2 ^ w) (c ∷ words) → HasWords (join_of_words of_word join w c words) (c ∷ words)
+  join-has c words below =
+      let word = holds w width c (below 0 c (omega arith)) in
+      let rest = joined (of_word w c) words word.0 (λ i e h. below (suc i) e (omega arith)) in
+      record {
+        value = rest.0.value;
+        all = All-cons (λ e. b.Member w (join_of_words of_word join w c words) e) c words (rest.1 c (below 0 c (omega arith)) word.1) rest.0.all;
+      }
+
+-- the common words of two values are the members of both
+pub common-members : (a b : Meaning) (two : a.fields ≡ 2) (member_term : ℕ → Term) → WalksMembers a → TellsMembership b member_term →
+    CommonAreMembersOfBoth a b member_term
+common-members a b two member_term walks tells w width x y hx hy c below = (
+  λ found. (
+    (walks w width x hx c below).1 (All-contains (Contains (walk w x)) (common w (member_term w) x y) c
+        (All-filter test (Contains (walk w x)) (walk w x) (All-contains_itself (walk w x))) found),
+    (is_member-tells b member_term tells w width y hy.tuple c below).0
+        (All-contains (λ d. test d ≡ true) (common w (member_term w) x y) c (filter_passes test (walk w x)) found),
+  ),
+  λ both. Contains-filter test (walk w x) c ((walks w width x hx c below).0 both.0) ((is_member-tells b member_term tells w width y hy.tuple c below).1 both.1),
+)
+  where
+    test : ℕ → Bool
+    test = is_member w (member_term w) y

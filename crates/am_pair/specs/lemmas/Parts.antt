@@ -1,0 +1,112 @@
+-- The parts of a pair.
+use Rattle.std.proofs.Common.{◌≡◌, ℕ, suc, ◌+◌, ◌-◌, ◌^◌, ◌<◌, ◌≤◌, List, [], ◌∷◌, ◌++◌, length, slice_index, subst, sym, refl, arith}
+use Rattle.am_bv.specs.Words.{AreWords}
+use Rattle.am_domain.specs.Tuple.{IsTuple}
+use Rattle.am_domain.specs.Meaning.{Meaning, IsAbstract}
+use Rattle.am_domain.proofs.Laws.{by_two, AreWords-nil, AreWords-cons}
+use Rattle.am_pair.specs.Pairs.{first, second, pairs}
+
+-- a fact at each list of at least two numbers
+pub by_more_than_two : (P : List ℕ → Type 0) → ((x y : ℕ) (rest : List ℕ) → P (x ∷ y ∷ rest)) → (p : List ℕ) → 2 ≤ length p → P p
+by_more_than_two P h [] most = absurd (omega arith)
+by_more_than_two P h (x ∷ []) most = absurd (omega arith)
+by_more_than_two P h (x ∷ y ∷ rest) most = h x y rest
+
+-- what is known of the parts of a tuple of a pair
+pub record AreParts (w count : ℕ) (p : List ℕ) : Type 0 where
+  pub front : IsTuple w 2 (first p)
+  pub back : IsTuple w count (second p)
+  pub whole : first p ++ second p ≡ p
+  pub start : slice_index (first p) 0 ≡ slice_index p 0
+
+-- the parts of a tuple of a pair
+pub parts : (w count : ℕ) (p : List ℕ) → IsTuple w (2 + count) p → AreParts w count p
+parts w count p h = by_more_than_two (λ p. IsTuple w (2 + count) p → AreParts w count p)
+    (λ x y rest t. record {
+      front = record { counted = refl; words = AreWords-cons w x (y ∷ []) (t.words 0) (AreWords-cons w y [] (t.words 1) (AreWords-nil w)) };
+      back = record { counted = omega (arith, t.counted); words = λ i. t.words (suc (suc i)) };
+      whole = refl;
+      start = refl;
+    })
+    p (omega (arith, h.counted)) h
+
+-- what is known of a tuple that is put together from two
+pub record HasMade (w count : ℕ) (x y : List ℕ) : Type 0 where
+  pub tuple : IsTuple w (2 + count) (x ++ y)
+  pub front : first (x ++ y) ≡ x
+  pub back : second (x ++ y) ≡ y
+  pub start : slice_index (x ++ y) 0 ≡ slice_index x 0
+
+-- a tuple of two parts
+pub made : (w count : ℕ) (x y : List ℕ) → IsTuple w 2 x → IsTuple w count y → HasMade w count x y
+made w count x y hx hy = by_two (λ x. IsTuple w 2 x → HasMade w count x y)
+    (λ c d t. record {
+      tuple = record { counted = omega (arith, hy.counted); words = AreWords-cons w c (d ∷ y) (t.words 0) (AreWords-cons w d y (t.words 1) hy.words) };
+      front = refl;
+      back = refl;
+      start = refl;
+    })
+    x hx.counted hx
+
+-- The parts of values of a pair, for a first domain that has two fields.
+module _ (a b : Meaning) (two : a.fields ≡ 2) where
+  -- two words are a tuple of the first domain, and the other way round
+  pub as_first : (w : ℕ) (x : List ℕ) → IsTuple w 2 x → IsTuple w a.fields x
+  as_first w x h = subst (λ n. IsTuple w n x) (sym two) h
+
+  pub of_first : (w : ℕ) (x : List ℕ) → IsTuple w a.fields x → IsTuple w 2 x
+  of_first w x h = subst (λ n. IsTuple w n x) two h
+
+  -- what is known of the parts of a value of a pair
+  pub record HasValues (w : ℕ) (p : List ℕ) : Type 0 where
+    pub known : AreParts w b.fields p
+    pub front : IsAbstract a w (first p)
+    pub back : IsAbstract b w (second p)
+    pub meets : b.Member w (second p) (slice_index (first p) 0)
+
+  -- the parts of a value of a pair
+  pub values : (w : ℕ) (p : List ℕ) → IsAbstract (pairs a b) w p → HasValues w p
+  values w p h =
+      let known = parts w b.fields p h.tuple in
+      record {
+        known = known;
+        front = record { tuple = as_first w (first p) known.front; valid = h.valid.0 };
+        back = record { tuple = known.back; valid = h.valid.1 };
+        meets = subst (b.Member w (second p)) (sym known.start) h.valid.2;
+      }
+
+  -- values of both that meet are a value of the pair
+  pub value : (w : ℕ) (x y : List ℕ) → IsAbstract a w x → IsAbstract b w y → b.Member w y (slice_index x 0) → IsAbstract (pairs a b) w (x ++ y)
+  value w x y hx hy meets =
+      let known = made w b.fields x y (of_first w x hx.tuple) hy.tuple in
+      record {
+        tuple = known.tuple;
+        valid = (
+          subst (a.Valid w) (sym known.front) hx.valid,
+          subst (b.Valid w) (sym known.back) hy.valid,
+          subst (λ z. b.Member w z (slice_index (x ++ y) 0)) (sym known.back) (subst (b.Member w y) (sym known.start) meets),
+        );
+      }
+
+  -- the members of what is put together are those of both
+  pub member : (w : ℕ) (x y : List ℕ) (c : ℕ) → IsTuple w 2 x → IsTuple w b.fields y → a.Member w x c → b.Member w y c → (pairs a b).Member w (x ++ y) c
+  member w x y c hx hy in_x in_y =
+      let known = made w b.fields x y hx hy in
+      (subst (λ z. a.Member w z c) (sym known.front) in_x, subst (λ z. b.Member w z c) (sym known.back) in_y)
+
+  -- the parts as they are taken out of a tuple, and of a value
+  pub front-IsTuple : (w : ℕ) (p x : List ℕ) → x ≡ first p → IsTuple w (2 + b.fields) p → IsTuple w a.fields x
+  front-IsTuple w p x e h = subst (IsTuple w a.fields) (sym e) (as_first w (first p) (parts w b.fields p h).front)
+
+  pub back-IsTuple : (w : ℕ) (p y : List ℕ) → y ≡ second p → IsTuple w (2 + b.fields) p → IsTuple w b.fields y
+  back-IsTuple w p y e h = subst (IsTuple w b.fields) (sym e) (parts w b.fields p h).back
+
+  pub front-IsAbstract : (w : ℕ) (p x : List ℕ) → x ≡ first p → IsAbstract (pairs a b) w p → IsAbstract a w x
+  front-IsAbstract w p x e h = subst (IsAbstract a w) (sym e) (values w p h).front
+
+  pub back-IsAbstract : (w : ℕ) (p y : List ℕ) → y ≡ second p → IsAbstract (pairs a b) w p → IsAbstract b w y
+  back-IsAbstract w p y e h = subst (IsAbstract b w) (sym e) (values w p h).back
+
+  -- at most four words
+  pub few_words : (w : ℕ) (x y : List ℕ) → b.fields ≤ 2 → IsTuple w a.fields x → IsTuple w b.fields y → length x + length y ≤ 4
+  few_words w x y few hx hy = omega (arith, hx.counted, hy.counted, two)
