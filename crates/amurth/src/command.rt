@@ -1,6 +1,6 @@
 //! The words of a command line.
 
-ghost use Rattle.std.specs.Prelude.{◌≡◌, ◌<◌, [], ◌∷◌, ◌++◌, ◌↔◌, length, map, slice_get, IsTrue, OnOk, OnErr, codes};
+ghost use Rattle.std.specs.Prelude.{◌≡◌, ◌<◌, [], ◌∷◌, ◌++◌, ◌↔◌, length, map, drop, slice_get, string_bytes, IsTrue, IfOk, OnOk, OnErr, codes};
 ghost use Rattle.amurth.specs.Command.{IsSynth};
 
 use std::alloc::{AllocError, Global};
@@ -60,6 +60,26 @@ impl CommandWords {
     {
         self.len() == 1 && is_word(self.get(0), b"synth")
     }
+}
+
+/// The words of a command line: all arguments but the first, which is the program's name, in order.
+pub fn command_words(alloc: Global, arguments: &[String]) -> Result<CommandWords, AllocError>
+    ensures { IfOk result (λ words. words ≡ map string_bytes (drop 1 arguments.now)) }
+{
+    match arguments {
+        [] => Ok(CommandWords::new(alloc)),
+        [_, words @ ..] => copies_of(alloc, words),
+    }
+}
+
+fn copies_of(alloc: Global, arguments: &[String]) -> Result<CommandWords, AllocError>
+    ensures { IfOk result (λ words. words ≡ map string_bytes arguments.now) }
+{
+    let mut words = CommandWords::new(alloc);
+    for argument in arguments {
+        words.push(argument.as_bytes())?;
+    }
+    Ok(words)
 }
 
 fn is_word(word: &[u8], name: &[u8]) -> bool

@@ -1,6 +1,6 @@
 ghost use Rattle.std.specs.Prelude.{◌≡◌, ◌<◌, IfOk};
 
-use crate::command::CommandWords;
+use crate::command::{CommandWords, command_words};
 use crate::status::Status;
 use crate::top::run;
 use am_io::{MemorySink, MemorySource};
@@ -253,4 +253,16 @@ fn exit_codes_are_the_documented_ones(rt: HostRuntime) {
     for (status, code) in table {
         assert_eq!(rt; status.code(), code);
     }
+}
+
+#[test]
+fn the_first_argument_is_no_word(rt: HostRuntime) -> Result<(), Fail> {
+    let mut arguments = Vec::new(rt.alloc());
+    for argument in ["amurth", "synth"] {
+        arguments.push(format!(in rt.alloc(); "{argument}")?)?;
+    }
+    let words = command_words(rt.alloc(), &arguments)?;
+    assert_eq!(rt; words.len(), 1);
+    assert!(rt; words.is_synth());
+    Ok(())
 }

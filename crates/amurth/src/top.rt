@@ -49,6 +49,9 @@ pub fn run<R: Source, W: Sink>(
     ensures part { result ≡ Status.WriteFault → WritesPrefix IsResponse (R.left input.old) (W.taken output.old) (W.taken output.new) }
     ensures silent { (result ≡ Status.Usage) ⊎ ((result ≡ Status.ReadFault) ⊎ (result ≡ Status.NoMemory)) → output.new ≡ output.old }
 
+    // Behind a whole text a `finish` of the sink succeeded.
+    ensures finished { (result ≡ Status.Done) ⊎ (result ≡ Status.Refused) → W.finished output.new }
+
     ensures lost { LosesAtMost (R.left input.old) (R.left input.new) (most_bytes + 1) }
 {
     if !words.is_synth() {
@@ -71,6 +74,7 @@ fn respond<W: Sink>(alloc: Global, text: &[u8], output: &mut W) -> Status
     ensures part { result ≡ Status.WriteFault → WritesPrefix IsResponse (Some text.now) (W.taken output.old) (W.taken output.new) }
     ensures write { result ≡ Status.WriteFault → W.faults output.old < W.faults output.new }
     ensures well_written { result ≢ Status.WriteFault → W.faults output.new ≡ W.faults output.old }
+    ensures finished { (result ≡ Status.Done) ⊎ (result ≡ Status.Refused) → W.finished output.new }
     ensures silent { result ≡ Status.NoMemory → output.new ≡ output.old }
     ensures no_usage { result ≢ Status.Usage }
     ensures no_fault { result ≢ Status.ReadFault }
@@ -92,6 +96,7 @@ fn deliver<W: Sink>(output: &mut W, text: &[u8], status: Status) -> Status
     ensures status { result ≢ Status.WriteFault → result ≡ status }
     ensures whole { result ≢ Status.WriteFault → Appends (W.taken output.old) (W.taken output.new) text.now }
     ensures well_written { result ≢ Status.WriteFault → W.faults output.new ≡ W.faults output.old }
+    ensures finished { result ≢ Status.WriteFault → W.finished output.new }
     ensures part { result ≡ Status.WriteFault → AppendsPrefix (W.taken output.old) (W.taken output.new) text.now }
     ensures write { result ≡ Status.WriteFault → W.faults output.old < W.faults output.new }
 {
