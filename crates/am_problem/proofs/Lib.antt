@@ -1,0 +1,14 @@
+pub mod Sizes
+pub mod Finds
+pub mod Seen
+pub mod Lists
+pub mod KindLaws
+pub mod ProblemLaws
+pub mod LineLaws
+pub mod LineLimits
+pub mod Undefined
+pub mod Nesting
+pub mod Named
+pub mod Formed
+pub mod TextLaws
+pub mod Indexing

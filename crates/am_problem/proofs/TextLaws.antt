@@ -1,0 +1,130 @@
+-- A text is a problem's exactly where that problem is read from it, and else it has a first refusal.
+use Rattle.std.proofs.Common.{◌≡◌, ℕ, Bool, true, false, cond, nat_lt, List, [], Option, Some, None, Result, Ok, Err, ap, subst, ◌∙◌, sym, refl, inl, inr}
+use Rattle.std.specs.Prelude.{IfErr, IfOk}
+use Rattle.std.proofs.lemmas.Bool.{ltb-false, le-ltb}
+use Rattle.std.proofs.lemmas.List.{append-nil}
+use Rattle.am_text.specs.Tokens.{Left, tokens_at, words}
+use Rattle.am_syntax.proofs.Laws.{Takes-words, text_found, text_read}
+use Rattle.am_syntax.specs.Texts.{Answers, IsTextOf, text_value}
+use Rattle.am_syntax.specs.declared.refusal.ReadError.{ReadError}
+use Rattle.am_syntax.specs.declared.refusal.ReadError.TheVariants.{NoMemory, Refused}
+use Rattle.am_syntax.specs.declared.refusal.Refusal.{Refusal}
+use Rattle.am_syntax.specs.declared.refusal.Refusal.TheVariants.{Load, Slots}
+use Rattle.am_problem.specs.declared.limits.TheConstants.{MOST_LOAD, MOST_SLOTS}
+use Rattle.am_problem.specs.Grammar.{names_of, problem}
+use Rattle.am_problem.specs.Limits.{IsFormed, IsProblem, slots_of}
+use Rattle.am_problem.specs.Lines.{Lines}
+use Rattle.am_problem.specs.Loads.{load_of}
+use Rattle.am_problem.specs.Problem.{Problem}
+use Rattle.am_problem.specs.Texts.{IfRefused, IsSettledProblem, Reads, all_settled, drafted, named, numbered, problem_of, settled_by, sized, undefined_in}
+use Rattle.am_problem.proofs.Formed.{formed_of, lines_of_formed}
+use Rattle.am_problem.proofs.LineLaws.{problem_law}
+use Rattle.am_problem.proofs.LineLimits.{lines_back, lines_good}
+use Rattle.am_problem.proofs.Named.{known_lines, known_named, lines_again, none_missing_lines, problem_again}
+use Rattle.am_problem.proofs.Undefined.{comes, lines_past, none_comes, none_found}
+
+-- ---- lines whose names are known
+
+-- lines of which no name is undefined are those of a problem
+pub formed_lines : (l : Lines) (s t : Left) → problem.read s ≡ Ok (l, t) → undefined_in (names_of l.rules) s.tokens ≡ None → IsFormed (numbered l)
+formed_lines l s t read defined =
+    let taken = problem_law.takes s l t read in
+    let none = none_comes (names_of l.rules) s.tokens defined in
+    let known = known_lines (names_of l.rules) l
+    (sym (lines_past (names_of l.rules) l (words t) taken.1) ∙ ap (comes (names_of l.rules)) (sym (Takes-words s (problem.spell l) t taken.0)) ∙ none) in
+    formed_of l (lines_good l taken.1) known
+
+-- ---- the last refusals
+
+sized_parts : (p q : Problem) (many heavy : Bool) → ◌≡◌ {A = Result Problem Refusal} (cond many (Err (Slots (slots_of p))) (cond heavy (Err (Load (load_of p))) (Ok p))) (Ok q) →
+    (many ≡ false) × (heavy ≡ false) × (p ≡ q)
+sized_parts p q true heavy h = absurd cc
+sized_parts p q false true h = absurd cc
+sized_parts p q false false h = (refl, refl, cc)
+
+sized_ok : (p q : Problem) → sized p ≡ Ok q → IsFormed p → IsProblem q × (p ≡ q)
+sized_ok p q h formed =
+    let k = sized_parts p q (nat_lt MOST_SLOTS (slots_of p)) (nat_lt MOST_LOAD (load_of p)) h in
+    (subst IsProblem k.2 (record { formed = formed; slots = ltb-false _ _ k.0; load = ltb-false _ _ k.1 }), k.2)
+
+sized_back : (p : Problem) → IsProblem p → sized p ≡ Ok p
+sized_back p is =
+    ap (λ b. cond b (Err (Slots (slots_of p))) (cond (nat_lt MOST_LOAD (load_of p)) (Err (Load (load_of p))) (Ok p))) (le-ltb _ _ is.slots)
+    ∙ ap (λ b. cond b (Err (Load (load_of p))) (Ok p)) (le-ltb _ _ is.load)
+
+-- ---- a problem and its text
+
+settled_ok : (l : Lines) (p : Problem) (place : Option ℕ) → settled_by l place ≡ Ok p → (place ≡ None) × (sized (numbered l) ≡ Ok p)
+settled_ok l p (Some place) h = absurd cc
+settled_ok l p None h = (refl, h)
+
+-- the lines of a text of which no name is undefined are those of a problem
+pub formed_text : (l : Lines) (text : List ℕ) → text_value problem text ≡ Ok l → undefined_in (names_of l.rules) (tokens_at 0 text) ≡ None → IsFormed (numbered l)
+formed_text l text value defined =
+    let is = text_found problem_law text l value in
+    let names = names_of l.rules in
+    let past = ap (comes names) (sym (append-nil (problem.spell l))) ∙ lines_past names l [] is.good in
+    formed_of l (lines_good l is.good) (known_lines names l (sym past ∙ ap (comes names) (sym is.spelled) ∙ none_comes names (tokens_at 0 text) defined))
+
+record IsFound (text : List ℕ) (p : Problem) : Type 0 where
+  lines : Lines
+  is_text : text_value problem text ≡ Ok lines
+  defined : undefined_in (names_of lines.rules) (tokens_at 0 text) ≡ None
+  fits : sized (numbered lines) ≡ Ok p
+
+found_in : (text : List ℕ) (p : Problem) (value : Result Lines Refusal) → text_value problem text ≡ value → all_settled (drafted text value) ≡ Ok p → IsFound text p
+found_in text p (Ok l) e h =
+    let k = settled_ok l p (undefined_in (names_of l.rules) (tokens_at 0 text)) h in
+    record { lines = l; is_text = e; defined = k.0; fits = k.1 }
+found_in text p (Err r) e h = absurd cc
+
+reads_from : (text : List ℕ) (p : Problem) → problem_of text ≡ Ok p → Reads text p
+reads_from text p h =
+    let found = found_in text p (text_value problem text) refl h in
+    let l = found.lines in
+    let is = text_found problem_law text l found.is_text in
+    let names = names_of l.rules in
+    let none = none_comes names (tokens_at 0 text) found.defined in
+    let past : comes names (problem.spell l) ≡ _ = ap (comes names) (sym (append-nil (problem.spell l))) ∙ lines_past names l [] is.good in
+    let known = known_lines names l (sym past ∙ ap (comes names) (sym is.spelled) ∙ none) in
+    let sized = sized_ok (numbered l) p found.fits (formed_of l (lines_good l is.good) known) in
+    record {
+      allowed = is.allowed;
+      spelled = is.spelled ∙ ap problem.spell (sym (lines_again l known) ∙ ap named sized.1);
+      limits = sized.0;
+    }
+
+reads_to : (text : List ℕ) (p : Problem) → Reads text p → problem_of text ≡ Ok p
+reads_to text p reads =
+    let l = named p in
+    let names = names_of l.rules in
+    let good = lines_back l (lines_of_formed p reads.limits.formed) in
+    let known = known_named p reads.limits.formed in
+    let is : IsTextOf problem text l = record { allowed = reads.allowed; spelled = reads.spelled; good = good } in
+    let past = ap (comes names) (sym (append-nil (problem.spell l))) ∙ lines_past names l [] good ∙ none_missing_lines l known in
+    let defined = none_found names (tokens_at 0 text) (ap (comes names) reads.spelled ∙ past) in
+    ap (λ value. all_settled (drafted text value)) (text_read problem_law tt text l is)
+    ∙ ap (settled_by l) defined
+    ∙ ap sized (problem_again p reads.limits.formed)
+    ∙ sized_back p reads.limits
+
+settled_so : (text : List ℕ) (answer : Result Problem Refusal) → problem_of text ≡ answer → IsSettledProblem text
+settled_so text (Ok p) e = inl (p, reads_from text p e, λ r h. let f : ◌≡◌ {A = Result Problem Refusal} (Ok p) (Err r) = sym e ∙ h in cc)
+settled_so text (Err r) e = inr (r, e, λ p reads. let f : ◌≡◌ {A = Result Problem Refusal} (Err r) (Ok p) = sym e ∙ reads_to text p reads in cc)
+
+pub all_texts_settled : (text : List ℕ) → IsSettledProblem text
+all_texts_settled text = settled_so text (problem_of text) refl
+
+-- ---- what an exact answer says
+
+pub found_by : (text : List ℕ) (result : Result Problem ReadError) → Answers (λ p. p) result (problem_of text) → IfOk result (λ p. Reads text p)
+found_by text (Ok p) h = reads_from text p h
+found_by text (Err e) h = tt
+
+pub only_by : (text : List ℕ) (result : Result Problem ReadError) → Answers (λ p. p) result (problem_of text) → (p : Problem) → Reads text p → Answers (λ p. p) result (Ok p)
+only_by text result h p reads = subst (Answers (λ p. p) result) (reads_to text p reads) h
+
+pub first_by : (text : List ℕ) (result : Result Problem ReadError) → Answers (λ p. p) result (problem_of text) → IfErr result (λ e. IfRefused e (λ r. problem_of text ≡ Err r))
+first_by text (Ok p) h = tt
+first_by text (Err (Refused r)) h = h
+first_by text (Err NoMemory) h = tt

@@ -1,0 +1,14 @@
+use Rattle.std.proofs.Common.{ℕ, List, [], ◌∷◌, ◌++◌, Bor, map, take, ap, sym, ◌∙◌}
+use Rattle.am_problem.specs.StoredLines.{seen_names}
+use Rattle.am_problem.specs.Texts.{number_in}
+use Rattle.am_problem.proofs.Lists.{map_grows}
+use Rattle.am_problem.proofs.numbering.number_names.Goals as goal
+
+pub loop-name-preserved : goal.loop-name-preserved
+loop-name-preserved c =
+    let f = number_in (seen_names c.args.names.now.keys) in
+    let before = map f (seen_names (take c.loop-name.name-index c.args.row.now)) in
+    c.in_ok-push.ensures.ok
+    ∙ ap (λ (ns : List ℕ). ns ++ c.number_name.result ∷ []) c.loop-name.invariant
+    ∙ ap (λ (n : ℕ). before ++ n ∷ []) c.number_name.ensures
+    ∙ sym (map_grows f (λ (v : Bor (List ℕ)). v.now) c.args.row.now c.loop-name.name-index _ c.loop-name-test.true)

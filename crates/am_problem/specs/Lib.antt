@@ -1,0 +1,11 @@
+pub mod Kinds
+pub mod Problem
+pub mod Loads
+pub mod Limits
+pub mod Stored
+pub mod Lines
+pub mod Grammar
+pub mod Texts
+pub mod StoredLines
+pub mod StoredDraft
+pub mod lemmas

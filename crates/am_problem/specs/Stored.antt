@@ -1,0 +1,26 @@
+-- A problem as contracts see it.
+use Rattle.am_problem.specs.declared.parts.Parts.{Parts}
+use Rattle.am_problem.specs.declared.problem.Problem.TheInside.{Inside}
+use Rattle.am_problem.specs.Limits.{IsProblem}
+use Rattle.am_problem.specs.Problem.{Problem}
+
+abbrev pub seen_parts : Parts → Problem
+seen_parts p = record {
+  width = p.width;
+  inputs = p.inputs;
+  operation = p.operation;
+  assume = p.assume;
+  kind = p.kind;
+  names = p.names;
+  rules = p.grammar.rules;
+  starts = p.grammar.starts;
+  depth = p.grammar.depth;
+  turns = p.turns;
+  conflicts = p.conflicts;
+}
+
+abbrev pub seen : Inside → Problem
+seen p = seen_parts p.parts
+
+abbrev pub IsInside : Inside → Type 0
+IsInside p = IsProblem (seen p)

@@ -1,0 +1,147 @@
+-- A problem's whole text: what it says, and the first refusal of each that says nothing.
+use Rattle.std.specs.Prelude.{◌≡◌, ℕ, Bool, ◌&&◌, not, nat_lt, if◌then◌else◌, List, [], ◌∷◌, map, slice_index_or, bytes_eq, codes, Option, Some, None, Result, Ok, Err, ◌⊎◌}
+use Rattle.std.specs.List.{position_or_len}
+use Rattle.am_text.specs.Tokens.{Placed, bad_byte, tokens_at, words_of}
+use Rattle.am_syntax.specs.Numerals.{is_name}
+use Rattle.am_syntax.specs.Readers.{◌>>=◌, Reader, Word, done}
+use Rattle.am_syntax.specs.Texts.{text_value}
+use Rattle.am_syntax.specs.declared.refusal.Refusal.{Refusal}
+use Rattle.am_syntax.specs.declared.refusal.Refusal.TheVariants.{Load, Slots, Undefined}
+use Rattle.am_syntax.specs.declared.refusal.ReadError.{ReadError}
+use Rattle.am_syntax.specs.declared.refusal.ReadError.TheVariants.{NoMemory, Refused}
+use Rattle.am_tree.specs.Trees.{Rules}
+use Rattle.am_tree.specs.declared.grammar.Production.{Production as Numbered}
+use Rattle.am_tree.specs.declared.grammar.Production.TheVariants.{Leaf, Node}
+use Rattle.am_problem.specs.declared.limits.TheConstants.{MOST_LOAD, MOST_SLOTS}
+use Rattle.am_problem.specs.Grammar.{has_name, names_of, problem}
+use Rattle.am_problem.specs.Limits.{IsProblem, slots_of}
+use Rattle.am_problem.specs.Lines.{Lines, Production, Rule, leaf, node}
+use Rattle.am_problem.specs.Loads.{load_of}
+use Rattle.am_problem.specs.Problem.{Problem}
+
+-- ---- nonterminals by their numbers
+
+-- a nonterminal has the number of its rule
+abbrev pub number_in : List Word → Word → ℕ
+number_in names name = position_or_len (bytes_eq name) names
+
+abbrev pub numbered_production : List Word → Production → Numbered
+numbered_production names (leaf t) = Leaf t
+numbered_production names (node op args) = Node op (map (number_in names) args)
+
+abbrev pub numbered_rules : List Word → List Rule → Rules
+numbered_rules names rules = map (λ (r : Rule). map (numbered_production names) r.productions) rules
+
+-- the problem of these lines
+abbrev pub numbered : Lines → Problem
+numbered l = record {
+  width = l.header.width;
+  inputs = l.header.inputs;
+  operation = l.header.operation;
+  assume = l.header.assume;
+  kind = l.kind;
+  names = names_of l.rules;
+  rules = numbered_rules (names_of l.rules) l.rules;
+  starts = map (number_in (names_of l.rules)) l.starts;
+  depth = l.budgets.depth;
+  turns = l.budgets.turns;
+  conflicts = l.budgets.conflicts;
+}
+
+-- ---- nonterminals by their names
+
+abbrev pub name_at : List Word → ℕ → Word
+name_at names n = slice_index_or names n []
+
+abbrev pub named_production : List Word → Numbered → Production
+named_production names (Leaf t) = leaf t
+named_production names (Node op args) = node op (map (name_at names) args)
+
+-- a rule for each name, of the nonterminals of all names
+abbrev pub named_rules : List Word → List Word → Rules → List Rule
+named_rules names [] rules = []
+named_rules names (v ∷ vs) [] = []
+named_rules names (v ∷ vs) (ps ∷ rules) = (record { name = v; productions = map (named_production names) ps }) ∷ named_rules names vs rules
+
+-- the lines of a problem
+abbrev pub named : Problem → Lines
+named p = record {
+  header = record { width = p.width; inputs = p.inputs; operation = p.operation; assume = p.assume };
+  kind = p.kind;
+  starts = map (name_at p.names) p.starts;
+  budgets = record { depth = p.depth; turns = p.turns; conflicts = p.conflicts };
+  rules = named_rules p.names p.names p.rules;
+}
+
+-- ---- names that no rule has
+
+abbrev pub is_undefined : List Word → Word → Bool
+is_undefined names v = is_name v && not (has_name names v)
+
+-- the place of the first name that is no rule's, up to the problem's end
+abbrev pub undefined_in : List Word → List Placed → Option ℕ
+undefined_in names [] = None
+undefined_in names (t ∷ ts) =
+    if bytes_eq t.word (codes "end") then None else
+    if is_undefined names t.word then Some t.place else undefined_in names ts
+
+-- a problem before its names are numbered and its size is tested
+pub record Draft : Type 0 where
+  pub lines : Lines
+  pub undefined : Option ℕ
+
+abbrev pub draft_with : List Placed → Lines → Draft
+draft_with tokens l = record { lines = l; undefined = undefined_in (names_of l.rules) tokens }
+
+-- a problem up to its end
+abbrev pub draft : Reader Draft
+draft s = (problem.read >>= λ l. done (draft_with s.tokens l)) s
+
+-- the problem, where it has no more slots and no greater load than allowed
+abbrev pub sized : Problem → Result Problem Refusal
+sized p =
+    if nat_lt MOST_SLOTS (slots_of p) then Err (Slots (slots_of p)) else
+    if nat_lt MOST_LOAD (load_of p) then Err (Load (load_of p)) else Ok p
+
+abbrev pub settled_by : Lines → Option ℕ → Result Problem Refusal
+settled_by l (Some place) = Err (Undefined place)
+settled_by l None = sized (numbered l)
+
+-- the problem of a draft, or the refusal of a name without a rule, of its slots or of its load
+abbrev pub settled : Draft → Result Problem Refusal
+settled d = settled_by d.lines d.undefined
+
+-- ---- whole texts
+
+-- the text is this problem's, which is within all limits
+pub record Reads (text : List ℕ) (p : Problem) : Type 0 where
+  pub allowed : bad_byte text ≡ None
+  pub spelled : words_of text ≡ problem.spell (named p)
+  pub limits : IsProblem p
+
+abbrev pub drafted : List ℕ → Result Lines Refusal → Result Draft Refusal
+drafted text (Ok l) = Ok (draft_with (tokens_at 0 text) l)
+drafted text (Err r) = Err r
+
+-- the draft of a text, or the first refusal of its bytes and tokens
+abbrev pub draft_of : List ℕ → Result Draft Refusal
+draft_of text = drafted text (text_value problem text)
+
+abbrev pub all_settled : Result Draft Refusal → Result Problem Refusal
+all_settled (Ok d) = settled d
+all_settled (Err r) = Err r
+
+-- the problem of a text, or its first refusal
+abbrev pub problem_of : List ℕ → Result Problem Refusal
+problem_of text = all_settled (draft_of text)
+
+-- a refusal, and no want of memory
+abbrev pub IfRefused : ReadError → (Refusal → Type 0) → Type 0
+IfRefused (Refused r) P = P r
+IfRefused NoMemory P = Unit {0}
+
+-- a text is some problem's and has no refusal, or it is none's and has one
+abbrev pub IsSettledProblem : List ℕ → Type 0
+IsSettledProblem text =
+    ((p : Problem) × Reads text p × ((r : Refusal) → problem_of text ≡ Err r → ⊥)) ⊎
+    ((r : Refusal) × (problem_of text ≡ Err r) × ((p : Problem) → Reads text p → ⊥))

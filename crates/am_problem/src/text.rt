@@ -1,0 +1,137 @@
+//! The whole text of a problem.
+
+ghost use Rattle.std.specs.Prelude.{◌≡◌, ℕ, List, Err, IfErr, IfOk, None, Ok};
+ghost use Rattle.am_text.specs.Tokens.{bad_byte, text_left};
+ghost use Rattle.am_syntax.specs.Readers.{Makes};
+ghost use Rattle.am_syntax.specs.Texts.{Answers, MakesAt, text_value};
+ghost use Rattle.am_problem.specs.Grammar.{names_of, problem};
+ghost use Rattle.am_problem.specs.Problem.{Problem as Data};
+ghost use Rattle.am_problem.specs.StoredDraft.{seen_draft};
+ghost use Rattle.am_problem.specs.StoredLines.{seen_lines, seen_rules};
+ghost use Rattle.am_problem.specs.Texts.{IfRefused, IsSettledProblem, Reads, draft, draft_of, problem_of, undefined_in};
+
+use crate::draft::{Draft, Lines, Rule, Scope};
+use crate::header::{read_budgets, read_domain, read_header, read_starts};
+use crate::problem::Problem;
+use crate::rules::{has_name, read_rules};
+use am_domain::Domain;
+use am_syntax::{Failure, Letter, ReadError, close, is_name, open, placed, take_key};
+use am_text::Cursor;
+use std::alloc::Global;
+
+/// A problem, up to its `end`.
+#[tactic(auto, unfolding(crate::specs::Grammar::problem))]
+fn read_lines<'a>(alloc: Global, text: &mut Cursor<'a>) -> Result<Lines<'a>, Failure>
+    ensures { Makes seen_lines result text.new (problem.read text.old) }
+{
+    let header = read_header(alloc, text)?;
+    let kind = read_domain(text)?;
+    let starts = read_starts(alloc, text, kind.fields())?;
+    let budgets = read_budgets(text)?;
+    let scope = Scope {
+        width: header.width,
+        letter: Letter::F,
+        variables: header.inputs * kind.fields(),
+    };
+    let rules = read_rules(alloc, text, &scope)?;
+    take_key(text, b"end")?;
+    Ok(Lines {
+        header,
+        kind,
+        starts,
+        budgets,
+        rules,
+    })
+}
+
+/// The place of the first name that no rule has, up to `end`.
+#[tactic(auto, using(crate::proofs::Seen::seen))]
+fn first_undefined(text: &mut Cursor<'_>, rules: &[Rule<'_>]) -> Option<usize>
+    ensures { result ≡ undefined_in (names_of (seen_rules rules.now)) text.old.tokens }
+{
+    'tokens: while let Some(token) = text.next() {
+        if token.text == b"end".as_slice() {
+            return None;
+        }
+        if is_name(token.text) && !has_name(rules, token.text) {
+            return Some(token.at);
+        }
+    }
+    None
+}
+
+/// A problem up to its `end`, and the first name that no rule has.
+fn read_draft<'a>(alloc: Global, text: &mut Cursor<'a>) -> Result<Draft<'a>, Failure>
+    ensures { Makes seen_draft result text.new (draft text.old) }
+{
+    let mut ahead = text.fork();
+    let lines = read_lines(alloc, text)?;
+    let undefined = first_undefined(&mut ahead, lines.rules.as_slice());
+    Ok(Draft { lines, undefined })
+}
+
+/// Reads a problem up to its `end`, in the middle of a text.
+///
+/// # Errors
+///
+/// `Refused`: the first token that no problem has here. The cursor stands at it.
+pub fn problem_at<'a>(alloc: Global, c: &mut Cursor<'a>) -> Result<Draft<'a>, ReadError>
+    ensures { MakesAt seen_draft result c.new (draft c.old) }
+{
+    let read = read_draft(alloc, c);
+    placed(read, &*c)
+}
+
+/// The lines of a whole text, from its beginning.
+#[tactic(auto, unfolding(am_syntax::specs::Texts::text_value))]
+fn read_to_end<'a>(
+    alloc: Global,
+    text: &'a [u8],
+    mut cursor: Cursor<'a>,
+) -> Result<Lines<'a>, ReadError>
+    requires allowed { bad_byte text.now ≡ None }
+    requires whole { cursor ≡ text_left text.now }
+    ensures { Answers seen_lines result (text_value problem text.now) }
+{
+    let read = read_lines(alloc, &mut cursor);
+    close(read, &cursor)
+}
+
+/// Reads all of a text, before its names are numbered.
+#[tactic(auto, unfolding(am_syntax::specs::Texts::text_value))]
+fn read_text<'a>(alloc: Global, text: &'a [u8]) -> Result<Draft<'a>, ReadError>
+    ensures { Answers seen_draft result (draft_of text.now) }
+{
+    let mut cursor = open(text)?;
+    let lines = read_to_end(alloc, text, cursor.fork())?;
+    let undefined = first_undefined(&mut cursor, lines.rules.as_slice());
+    Ok(Draft { lines, undefined })
+}
+
+/// Reads all of a text.
+fn read_all(alloc: Global, text: &[u8]) -> Result<Problem, ReadError>
+    ensures { Answers (λ p. p) result (problem_of text.now) }
+{
+    read_text(alloc, text)?.settle(alloc)
+}
+
+/// Reads the problem of a text.
+///
+/// # Errors
+///
+/// `Refused`: the text is no problem's, with the first refusal.
+pub fn read_problem(alloc: Global, text: &[u8]) -> Result<Problem, ReadError>
+    // What is read is the text's problem.
+    ensures found { IfOk result (λ p. Reads text.now p) }
+    // What is some problem's text is read, unless memory runs out.
+    ensures only { (p : Data) → Reads text.now p → Answers (λ p. p) result (Ok p) }
+    // Where nothing is read, the refusal is the first.
+    ensures first { IfErr result (λ e. IfRefused e (λ r. problem_of text.now ≡ Err r)) }
+{
+    read_all(alloc, text)
+}
+
+/// Each text is a problem's or has a first refusal, and not both.
+pub fn texts_are_settled()
+    ensures { (text : List ℕ) → IsSettledProblem text }
+{}
