@@ -3,7 +3,7 @@ use Rattle.std.specs.List.Sorted.{IsStrictlyIncreasing}
 use Rattle.std.proofs.lemmas.List.{get_or-append-add}
 use Rattle.am_lit.specs.Clause.{IsNormal}
 use Rattle.am_lit.specs.UnitRow.{AllNew, IsUnitRow, MeetsConflict}
-use Rattle.am_lit.proofs.Few.{new_few}
+use Rattle.am_lit.specs.UnitRowLaws.{NewClausesAreFew}
 use Rattle.am_lit.proofs.Laws.{nothing_new}
 use Rattle.am_chain.specs.declared.chain.Chain.{Chain}
 use Rattle.am_chain.proofs.Laws.{length-replay}
@@ -26,10 +26,10 @@ module _ (given learnt : List (List ℕ)) (vars : ℕ) (log : List Chain) (watch
   )
 
   -- the clauses over a base are fewer than a limit of 3 to the number of its variables
-  pub spent_over : (base : List ℕ) (limit : ℕ) → IsStrictlyIncreasing base → KeepsTo base learnt t.entries → length learnt ≡ limit → 3 ^ length base ≤ limit → ⊥
-  spent_over base limit rises keeps all enough =
+  pub spent_over : NewClausesAreFew → (base : List ℕ) (limit : ℕ) → IsStrictlyIncreasing base → KeepsTo base learnt t.entries → length learnt ≡ limit → 3 ^ length base ≤ limit → ⊥
+  spent_over law base limit rises keeps all enough =
       let normal = last_all (IsNormal vars) given learnt s.normal in
-      let few = new_few given learnt vars base rises s.new (λ k d lt. (normal k d lt, keeps.over k d lt)) in
+      let few = law given learnt vars base rises s.new (λ k d lt. (normal k d lt, keeps.over k d lt)) in
       omega arith
 
   -- where unit propagation alone meets a conflict, nothing is learnt

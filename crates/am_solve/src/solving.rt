@@ -9,6 +9,7 @@ use crate::answer::Answer;
 use crate::assignment::assignment_of;
 use crate::search::Search;
 use am_lit::Formula;
+use am_lit::unit_rows::new_clauses_are_few;
 use std::alloc::{AllocError, Global};
 
 /// Whether a limit is at least 3 to a power.
@@ -74,5 +75,7 @@ pub fn solve(
         search.choice.age(conflicts + 1);
         search.restart(&formula.clauses, conflicts + 1);
     }
+    // Over a base of B variables there are fewer than 3^B new clauses.
+    new_clauses_are_few();
     Ok(Answer::Spent(search.log))
 }

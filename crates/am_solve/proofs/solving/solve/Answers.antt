@@ -54,7 +54,7 @@ returns-clause-enough c = λ k enough _.
     let s = c.loop-conflicts.search in
     let on : c.is_enough-over_base.result ≡ true = c.is_enough-over_base.ensures.1 enough in
     let is = c.preferred-first.ensures.base on in
-    spent_over c.args.formula.now.clauses s.learnt s.trail.vars s.log s.watch s.trail i.searches c.args.base.now c.args.limit c.requires.rises
+    spent_over c.args.formula.now.clauses s.learnt s.trail.vars s.log s.watch s.trail i.searches c.new_clauses_are_few.ensures c.args.base.now c.args.limit c.requires.rises
     (rw is at (i.keeps on (rw is k))) (omega (arith, i.count)) enough
 
 pub returns-clause-conflict : goal.returns-clause-conflict
