@@ -30,8 +30,9 @@
 //! succeeded, and `WriteFault` exactly where the count rose; after every answer the sink has taken
 //! a prefix of the text; it takes no memory. The memory types fail at exactly the listed calls, and
 //! the sink also at a `put` without room; they move exactly the least of the step, what is left,
-//! and the length of the buffer or piece. On the standard streams an error, and nothing else but a
-//! write of no byte, is counted as a fault.
+//! and the length of the buffer or piece. An answer of a standard stream that is handed to the
+//! function `counted` raises the count exactly where it is an error; that [`StdSource`] and
+//! [`StdSink`] hand it what std answered, unchanged, is no clause's matter but a line each to read.
 #![tactic(auto)]
 
 mod memory;

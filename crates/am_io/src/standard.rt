@@ -1,4 +1,4 @@
-//! The standard streams. What they hold is not told; that an error is counted is proved.
+//! The standard streams, whose bytes no contract tells. Each answer of std goes through `counted`.
 
 ghost use Rattle.std.specs.Prelude.{◌≡◌, ◌-◌, ◌<◌, ◌^◌, None};
 ghost use Rattle.am_io.specs.inside.Counted.{Counts};

@@ -1,3 +1,5 @@
+//! Reading and writing in memory and over the standard streams.
+
 ghost use Rattle.std.specs.Prelude.{◌≡◌, ℕ, ◌+◌, ◌<◌, IfOk, None, List};
 ghost use Rattle.std.specs.declared.option.Option.{Option};
 

@@ -1,3 +1,5 @@
+//! Writing a whole text to a sink.
+
 ghost use Rattle.std.specs.Prelude.{◌≡◌, ◌-◌, ◌<◌, ◌^◌, OnOk};
 ghost use Rattle.std.specs.Io.KnownBytes.{Appends};
 ghost use Rattle.am_io.specs.Streams.{AppendsPrefix, FailsByCount};

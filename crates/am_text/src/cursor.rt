@@ -1,3 +1,5 @@
+//! A cursor over the tokens of a text.
+
 ghost use Rattle.std.specs.Prelude.{◌≡◌, ◌≢◌, ◌∷◌, [], IfNone, IfSome, IfErr, OnErr, OnOk, Some, option_map};
 ghost use Rattle.am_text.specs.Tokens.{Left, first, next_place, rest, words};
 ghost use Rattle.am_text.specs.Seen.{seen};

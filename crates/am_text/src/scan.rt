@@ -1,3 +1,5 @@
+//! Where tokens begin and end.
+
 ghost use Rattle.std.specs.Prelude.{◌≡◌, ◌^◌, ◌+◌, ◌≤◌, ◌<◌, ◌∷◌, length, IfSome, IfNone, []};
 ghost use Rattle.std.specs.List.{prefix_len};
 ghost use Rattle.am_text.specs.Tokens.{bad_byte, is_space, is_parenthesis, is_word_byte, tokens_at};

@@ -1,3 +1,5 @@
+//! Tokens, cursors and writers at work.
+
 use super::*;
 use std::alloc::{AllocError, Global};
 use std::test::Fail;

@@ -1,3 +1,5 @@
+//! The tokens of a text, and its first bad byte.
+
 ghost use Rattle.std.specs.Prelude.{◌≡◌, IfErr, IfOk, None, OnOk, Some};
 ghost use Rattle.am_text.specs.Tokens.{AreTokensOf, bad_byte, text_left};
 

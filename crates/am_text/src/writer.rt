@@ -1,3 +1,5 @@
+//! A writer, which holds what was appended.
+
 ghost use Rattle.std.specs.Prelude.{◌≡◌, [], ◌∷◌, ◌++◌, decimal, OnOk, OnErr};
 
 use itoa::Buffer;
