@@ -59,7 +59,8 @@ constant-bit v c t = go (eqb (c % 2) 0) refl
     go true e = ap bit (value-falsity v t) ∙ grind (arith, nat_tests)
     go false e = ap bit (value-truth v t) ∙ grind (arith, nat_tests)
 
-reads-constant : (v : ℕ → Bool) (w c : ℕ) → IsTrue (v 0) → c < 2 ^ w → reads v (constant w c) ≡ c
+-- a constant reads as its number
+pub reads-constant : (v : ℕ → Bool) (w c : ℕ) → IsTrue (v 0) → c < 2 ^ w → reads v (constant w c) ≡ c
 reads-constant v zero c t h = omega (arith, h)
 reads-constant v (suc w) c t h =
     let half : c / 2 < 2 ^ w = omega (arith, rw pow-succ' at h) in
@@ -73,6 +74,10 @@ All-constant (suc w) c n pos = All-cons (IsLiteral n) _ (constant w (c / 2)) (go
     go : (b : Bool) → IsLiteral n (cond b falsity truth)
     go true = omega (arith, pos)
     go false = omega (arith, pos)
+
+-- a constant is a word
+pub IsWord-constant : (w c n : ℕ) → 0 < n → IsWord w n (constant w c)
+IsWord-constant w c n pos = record { bits = length-constant w c; inside = All-constant w c n pos }
 
 -- the meaning
 

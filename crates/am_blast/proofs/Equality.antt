@@ -99,6 +99,16 @@ Makes-nonzero_from n (x ∷ xs) p hn hx =
     Makes-bind _ (length xs) (Makes-either n x p hn (first_inside p.next x xs hx)) (omega arith)
     (λ next q l m. Makes-nonzero_from next xs q m (others_inside p.next q.next x xs (omega arith) hx))
 
+-- the test whether a word isn't 0 is true exactly there
+pub Means-nonzero : (v : ℕ → Bool) (xs : List ℕ) → Means v (nonzero xs) (λ r. literal_value v r ≡ not (eqb (reads v xs) 0))
+Means-nonzero v xs =
+    Means-truth (λ t. Means-weaker (Means-nonzero_from v falsity xs)
+    (λ r k. k ∙ ap (λ x. x || not (eqb (reads v xs) 0)) (value-falsity v t)))
+
+-- the test whether a word isn't 0 is at most a gate for each of its literals
+pub Makes-nonzero : (xs : List ℕ) (p : Place) → 0 < p.next → All (IsLiteral p.next) xs → MakesGates (nonzero xs) (length xs) IsLiteral p
+Makes-nonzero xs p pos h = Makes-nonzero_from falsity xs p pos h
+
 -- one more bit of the test
 pub Follows-nonzero_from_at : (i n x next : ℕ) (xs : List ℕ) (old m end : Net) (r : ℕ) → i < length xs → x ≡ get_or xs i x →
     Follows (either n x) old next m → Follows (nonzero_from next (drop (i + 1) xs)) m r end →
@@ -131,10 +141,9 @@ where_zero n x y = go (eqb n 0)
 -- the circuit of the choice
 pub ite-circuit : (w : ℕ) → IsCircuitOf w Ite
 ite-circuit w = of_three w Ite refl
-    (λ v c a b ec ea eb. Means-truth (λ t. Means-weaker
-    (Means-choice v (nonzero c) (not (eqb (reads v c) 0)) a b (eb ∙ sym ea)
-    (Means-weaker (Means-nonzero_from v falsity c) (λ r k. k ∙ ap (λ x. x || not (eqb (reads v c) 0)) (value-falsity v t))))
-    (λ r k. record { bits = k.bits ∙ ea; value = k.value ∙ where_zero (reads v c) (reads v a) (reads v b) })))
+    (λ v c a b ec ea eb. Means-weaker
+    (Means-choice v (nonzero c) (not (eqb (reads v c) 0)) a b (eb ∙ sym ea) (Means-nonzero v c))
+    (λ r k. record { bits = k.bits ∙ ea; value = k.value ∙ where_zero (reads v c) (reads v a) (reads v b) }))
     (λ p c a b pos hc ha hb. Makes-count
-    (rw (hc.bits, ha.bits) at (Makes-choice (nonzero c) (length c) a b p (hb.bits ∙ sym ha.bits) ha.inside hb.inside (Makes-nonzero_from falsity c p pos hc.inside)))
+    (rw (hc.bits, ha.bits) at (Makes-choice (nonzero c) (length c) a b p (hb.bits ∙ sym ha.bits) ha.inside hb.inside (Makes-nonzero c p pos hc.inside)))
     (omega arith))

@@ -8,6 +8,7 @@ pub mod Logic
 pub mod Flags
 pub mod Table
 pub mod Blasted
+pub mod InTurn
 pub mod Sums
 pub mod Comparisons
 pub mod Products

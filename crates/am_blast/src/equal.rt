@@ -28,9 +28,12 @@ pub(crate) fn is_equal(circuit: &mut Circuit, a: &[Lit], b: &[Lit]) -> Result<Li
     Ok(equal)
 }
 
-/// Whether the word reads another number than 0.
+/// Makes the test whether a word reads another number than 0, and answers its literal.
+///
+/// It makes at most one gate for each literal of the word, from bit 0, and no input. After want of memory
+/// the circuit begins with its earlier variables and clauses.
 #[tactic(auto, using(am_gate::proofs::Laws::begins))]
-pub(crate) fn is_nonzero(circuit: &mut Circuit, a: &[Lit]) -> Result<Lit, AllocError>
+pub fn is_nonzero(circuit: &mut Circuit, a: &[Lit]) -> Result<Lit, AllocError>
     requires room { HasRoom (length a.now) circuit.old }
     requires word { All (IsLiteral circuit.old.vars) a.now }
     ensures ok { IfOk result (λ r. Gives (nonzero a.now) (length a.now) IsLiteral circuit.old r circuit.new) }

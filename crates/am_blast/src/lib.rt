@@ -5,7 +5,8 @@
 //! value of the term. It has exactly as many gates as the term weighs, or fewer where the circuit folds,
 //! and no input of its own, and each choice of the earlier variables extends to such truth values.
 //!
-//! [`apply`] makes the circuit of one operator over words, and [`at_each_bit`] a gate at each bit.
+//! [`apply`] makes the circuit of one operator over words, [`at_each_bit`] a gate at each bit, and
+//! [`is_nonzero`] the test whether a word isn't 0. [`constant`] is the word of a number.
 //!
 //! ```text
 //! let mut circuit = Circuit::new(alloc)?;
@@ -43,9 +44,10 @@ mod terms;
 mod word;
 
 pub use bitwise::{Gate, at_each_bit};
+pub use equal::is_nonzero;
 pub use operator::apply;
 pub use sum::zeros;
-pub use terms::blast;
+pub use terms::{blast, constant};
 pub use word::{WordLits, Words, copied};
 
 #[cfg(test)]

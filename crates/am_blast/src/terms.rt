@@ -86,8 +86,9 @@ fn word_of(
     }
 }
 
-/// The word of a constant.
-fn constant(alloc: Global, circuit: &Circuit, w: Width, c: u8) -> Result<WordLits, AllocError>
+/// The word of a constant: a literal that is true or false for each bit of the width, least bit first. It
+/// makes no gate.
+pub fn constant(alloc: Global, circuit: &Circuit, w: Width, c: u8) -> Result<WordLits, AllocError>
     ensures { IfOk result (λ r. r ≡ constant w c) }
 {
     let on = circuit.truth();
