@@ -3,8 +3,6 @@ use Rattle.std.specs.Prelude.{ℕ, ◌^◌, ◌<◌, ◌↔◌, List, Contains}
 use Rattle.am_bv.specs.Words.{IsWidth}
 use Rattle.am_bv.specs.declared.term.Term.{Term}
 use Rattle.am_domain.specs.Meaning.{Meaning, IsAbstract}
-use Rattle.am_domain.specs.Laws.{TellsMembership}
-use Rattle.am_domain.specs.AnchoredLaws.{WalksMembers}
 use Rattle.am_pair.specs.Pairs.{common}
 
 -- a word is common to two values exactly where it is a member of both

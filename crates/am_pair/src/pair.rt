@@ -81,11 +81,14 @@ impl<A: Anchored, B: Domain> Domain for Pair<A, B> {
 
     ghost join = { λ d. pair_join (A.join d.a) (B.join d.b) };
 
-    ghost tidy = { λ d w p. tidy_parts (B.of_word d.b) (B.join d.b) (B.member_term d.b) w (A.tidy d.a w (first p)) (B.tidy d.b w (second p)) };
+    ghost tidy = { λ d w p.
+        tidy_parts (B.of_word d.b) (B.join d.b) (B.member_term d.b) w (A.tidy d.a w (first p)) (B.tidy d.b w (second
+        p)) };
 
     ghost rank = { λ d. pair_rank (A.rank d.a) (B.rank d.b) };
 
-    ghost valid_term = { λ d w. pair_valid_term (A.valid_term d.a w) (B.valid_term d.b w) (B.member_term d.b w) (B.meaning d.b).fields };
+    ghost valid_term = { λ d w.
+        pair_valid_term (A.valid_term d.a w) (B.valid_term d.b w) (B.member_term d.b w) (B.meaning d.b).fields };
 
     ghost member_term = { λ d w. pair_member_term (A.member_term d.a w) (B.member_term d.b w) (B.meaning d.b).fields };
 
@@ -153,19 +156,36 @@ impl<A: Anchored, B: Domain> Domain for Pair<A, B> {
 
     ghost has_fields = { λ d. laws.some_fields (B.meaning d.b).fields };
 
-    ghost has_members = { λ d. laws.has_members (A.meaning d.a) (B.meaning d.b) (A.has_two_fields d.a) (A.has_start d.a) };
+    ghost has_members = { λ d.
+        laws.has_members (A.meaning d.a) (B.meaning d.b) (A.has_two_fields d.a) (A.has_start d.a) };
 
-    ghost has_top = { λ d. laws.has_top (A.meaning d.a) (B.meaning d.b) (A.has_two_fields d.a) (A.top d.a) (B.top d.b) (A.has_top d.a) (B.has_top d.b) };
+    ghost has_top = { λ d.
+        laws.has_top (A.meaning d.a) (B.meaning d.b) (A.has_two_fields d.a) (A.top d.a) (B.top d.b) (A.has_top d.a)
+        (B.has_top d.b) };
 
-    ghost holds_words = { λ d. laws.holds_words (A.meaning d.a) (B.meaning d.b) (A.has_two_fields d.a) (A.of_word d.a) (B.of_word d.b) (A.holds_words d.a) (B.holds_words d.b) (A.has_points d.a) };
+    ghost holds_words = { λ d.
+        laws.holds_words (A.meaning d.a) (B.meaning d.b) (A.has_two_fields d.a) (A.of_word d.a) (B.of_word d.b)
+        (A.holds_words d.a) (B.holds_words d.b) (A.has_points d.a) };
 
-    ghost joins_above = { λ d. laws.joins_above (A.meaning d.a) (B.meaning d.b) (A.has_two_fields d.a) (A.join d.a) (B.join d.b) (A.joins_above d.a) (B.joins_above d.b) (A.keeps_start d.a) };
+    ghost joins_above = { λ d.
+        laws.joins_above (A.meaning d.a) (B.meaning d.b) (A.has_two_fields d.a) (A.join d.a) (B.join d.b)
+        (A.joins_above d.a) (B.joins_above d.b) (A.keeps_start d.a) };
 
-    ghost descends = { λ d. laws.descends (A.meaning d.a) (B.meaning d.b) (A.has_two_fields d.a) (A.join d.a) (B.join d.b) (A.joins_above d.a) (B.joins_above d.b) (A.rank d.a) (B.rank d.b) (A.descends d.a) (B.descends d.b) };
+    ghost descends = { λ d.
+        laws.descends (A.meaning d.a) (B.meaning d.b) (A.has_two_fields d.a) (A.join d.a) (B.join d.b)
+        (A.joins_above d.a) (B.joins_above d.b) (A.rank d.a) (B.rank d.b) (A.descends d.a) (B.descends d.b) };
 
-    ghost tidies = { λ d. laws.tidies (A.meaning d.a) (B.meaning d.b) (A.has_two_fields d.a) (B.of_word d.b) (B.join d.b) (B.member_term d.b) (B.holds_words d.b) (B.joins_above d.b) (B.tells_membership d.b) (A.walks_members d.a) (A.has_parts d.a) (A.tidy d.a) (B.tidy d.b) (A.tidies d.a) (B.tidies d.b) };
+    ghost tidies = { λ d.
+        laws.tidies (A.meaning d.a) (B.meaning d.b) (A.has_two_fields d.a) (B.of_word d.b) (B.join d.b)
+        (B.member_term d.b) (B.holds_words d.b) (B.joins_above d.b) (B.tells_membership d.b) (A.walks_members d.a)
+        (A.has_parts d.a) (A.tidy d.a) (B.tidy d.b) (A.tidies d.a) (B.tidies d.b) };
 
-    ghost tells_validity = { λ d. laws.tells_validity (A.meaning d.a) (B.meaning d.b) (A.has_two_fields d.a) (B.has_fields d.b) (A.valid_term d.a) (B.valid_term d.b) (B.member_term d.b) (A.tells_validity d.a) (B.tells_validity d.b) (B.tells_membership d.b) };
+    ghost tells_validity = { λ d.
+        laws.tells_validity (A.meaning d.a) (B.meaning d.b) (A.has_two_fields d.a) (B.has_fields d.b) (A.valid_term
+        d.a) (B.valid_term d.b) (B.member_term d.b) (A.tells_validity d.a) (B.tells_validity d.b)
+        (B.tells_membership d.b) };
 
-    ghost tells_membership = { λ d. laws.tells_membership (A.meaning d.a) (B.meaning d.b) (A.has_two_fields d.a) (B.has_fields d.b) (A.member_term d.a) (B.member_term d.b) (A.tells_membership d.a) (B.tells_membership d.b) };
+    ghost tells_membership = { λ d.
+        laws.tells_membership (A.meaning d.a) (B.meaning d.b) (A.has_two_fields d.a) (B.has_fields d.b)
+        (A.member_term d.a) (B.member_term d.b) (A.tells_membership d.a) (B.tells_membership d.b) };
 }

@@ -1,23 +1,16 @@
 -- The common words of two parts, and the join of their values.
-use Rattle.std.proofs.Common.{◌≡◌, ℕ, zero, suc, ◌+◌, ◌^◌, ◌<◌, ◌≤◌, ◌↔◌, Bool, true, false, cond, IsTrue, List, [], ◌∷◌, ◌++◌, length, slice_index, get_or, inl, inr, refl, sym, ap, ◌∙◌, subst, arith, rules, MatchOption, lit<}
+use Rattle.std.proofs.Common.{◌≡◌, ℕ, zero, suc, ◌^◌, ◌<◌, ◌≤◌, Bool, true, false, cond, List, [], ◌∷◌, length, get_or, refl, sym, ap, ◌∙◌, arith}
 use Rattle.std.specs.Prelude.{All, AllPairs, Contains, filter, fold}
-use Rattle.std.specs.declared.option.Option.{Option}
-use Rattle.std.specs.declared.option.Option.TheVariants.{Some, None}
 use Rattle.std.proofs.lemmas.List.Elements.{All-cons, All-contains, All-filter, All-contains_itself, filter_passes}
-use Rattle.std.specs.Option.{ForSome}
-use Rattle.std.proofs.lemmas.List.Sums.{fold-append}
-use Rattle.std.proofs.lemmas.List.Kept.{AllPairs-filter}
 use Rattle.am_bv.specs.Words.{IsWidth}
 use Rattle.am_bv.specs.declared.term.Term.{Term}
-use Rattle.am_domain.specs.Tuple.{IsTuple}
 use Rattle.am_domain.specs.Meaning.{Meaning, IsAbstract}
-use Rattle.am_domain.specs.Walk.{steps, walk}
-use Rattle.am_domain.specs.Laws.{HoldsWords, JoinsAbove, Tidies, TellsMembership, is_member}
-use Rattle.am_domain.specs.AnchoredLaws.{WalksMembers, HasParts}
+use Rattle.am_domain.specs.Walk.{walk}
+use Rattle.am_domain.specs.Laws.{HoldsWords, JoinsAbove, TellsMembership, is_member}
+use Rattle.am_domain.specs.AnchoredLaws.{WalksMembers}
 use Rattle.am_domain.proofs.Laws.{is_member-tells}
-use Rattle.am_pair.specs.Pairs.{first, second, pairs, common, last_of, join_of_words, hull_of_words, tidy_parts}
+use Rattle.am_pair.specs.Pairs.{common, last_of, join_of_words}
 use Rattle.am_pair.specs.Theorems.{CommonAreMembersOfBoth}
-use Rattle.am_pair.specs.lemmas.Parts.{parts, as_first, of_first, value, member}
 
 -- what passes a filter
 Contains-filter : (p : ℕ → Bool) (xs : List ℕ) (c : ℕ) → Contains xs c → p c ≡ true → Contains (filter p xs) c

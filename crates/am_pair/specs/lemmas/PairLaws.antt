@@ -12,7 +12,7 @@ use Rattle.am_bv.specs.declared.term.Term.{Term}
 use Rattle.am_domain.specs.Tuple.{IsTuple}
 use Rattle.am_domain.specs.Meaning.{Meaning, IsAbstract}
 use Rattle.am_domain.specs.Walk.{steps, walk}
-use Rattle.am_domain.specs.Laws.{HasMembers, HasTop, HoldsWords, IsJoin, JoinsAbove, Descends, Tidies, TellsValidity, TellsMembership, is_member}
+use Rattle.am_domain.specs.Laws.{HasMembers, HasTop, HoldsWords, JoinsAbove, Descends, Tidies, TellsValidity, TellsMembership, is_member}
 use Rattle.am_domain.specs.AnchoredLaws.{HasStart, HasPoints, KeepsStart, WalksMembers, HasParts}
 use Rattle.am_domain.proofs.Laws.{pair-IsTuple, Contains-walk, part-between}
 use Rattle.am_pair.specs.Pairs.{first, second, pairs, pair_join, pair_rank, common, last_of, join_of_words, hull_of_words, tidy_parts, pair_valid_term, pair_member_term}

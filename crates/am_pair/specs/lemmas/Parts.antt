@@ -1,6 +1,5 @@
 -- The parts of a pair.
-use Rattle.std.proofs.Common.{◌≡◌, ℕ, suc, ◌+◌, ◌-◌, ◌^◌, ◌<◌, ◌≤◌, List, [], ◌∷◌, ◌++◌, length, slice_index, subst, sym, refl, arith}
-use Rattle.am_bv.specs.Words.{AreWords}
+use Rattle.std.proofs.Common.{◌≡◌, ℕ, suc, ◌+◌, ◌≤◌, List, [], ◌∷◌, ◌++◌, length, slice_index, subst, sym, refl, arith}
 use Rattle.am_domain.specs.Tuple.{IsTuple}
 use Rattle.am_domain.specs.Meaning.{Meaning, IsAbstract}
 use Rattle.am_domain.proofs.Laws.{by_two, AreWords-nil, AreWords-cons}

@@ -1,5 +1,5 @@
 -- The terms for pairs tell validity and membership.
-use Rattle.std.proofs.Common.{◌≡◌, ◌≢◌, ℕ, zero, suc, ◌+◌, ◌*◌, ◌^◌, ◌<◌, ◌≤◌, ◌↔◌, true, not, if◌then◌else◌, ◌==◌, IsTrue, nat_lt, List, [], ◌∷◌, ◌++◌, length, map, take, drop, slice_index, get_or, inl, inr, refl, sym, ap, ◌∙◌, subst, arith, lit≤, rules}
+use Rattle.std.proofs.Common.{◌≡◌, ◌≢◌, ℕ, zero, suc, ◌+◌, ◌^◌, ◌<◌, ◌≤◌, ◌↔◌, true, not, if◌then◌else◌, ◌==◌, IsTrue, nat_lt, List, [], ◌∷◌, ◌++◌, length, map, take, drop, slice_index, inl, inr, refl, sym, ap, ◌∙◌, subst, arith}
 use Rattle.std.specs.Prelude.{All}
 use Rattle.std.specs.List.{range_with_len}
 use Rattle.std.proofs.Math.Nat.{pow-le-pow_right}
@@ -10,17 +10,15 @@ use Rattle.std.proofs.lemmas.Bool.Decides.{nat_tests}
 use Rattle.std.proofs.lemmas.List.{length-append, map-append, take_all, length-take-le, get_or-take, get_or_past}
 use Rattle.std.proofs.lemmas.List.Elements.{All-append, All-cons}
 use Rattle.std.proofs.lemmas.List.FromFn.{length-range_with_len, get_or-range_with_len}
-use Rattle.am_bv.specs.Words.{IsWidth, AreWords}
-use Rattle.am_bv.specs.Terms.{val, fits, nodes, rename, ternary}
-use Rattle.am_bv.specs.declared.op.Op.TheVariants.{Ite}
+use Rattle.am_bv.specs.Words.{IsWidth}
+use Rattle.am_bv.specs.Terms.{val, fits, nodes}
 use Rattle.am_bv.specs.declared.term.Term.{Term}
-use Rattle.am_bv.specs.declared.term.Term.TheVariants.{Const}
 use Rattle.am_bv.proofs.Laws.{val-Const, val-ternary, val-same, val-rename, fits-Const, fits-Node, fits-more, fits-rename, nodes-Const, nodes-Node, nodes-rename}
 use Rattle.am_domain.specs.Tuple.{IsTuple}
 use Rattle.am_domain.specs.Meaning.{Meaning}
 use Rattle.am_domain.specs.Laws.{IsIndicator, TellsValidity, TellsMembership}
-use Rattle.am_domain.proofs.Laws.{pair-IsTuple, AreWords-nil, AreWords-cons, is_member-tells}
-use Rattle.am_pair.specs.Pairs.{first, second, pairs, second_fields, pair_valid_term, pair_member_term}
+use Rattle.am_domain.proofs.Laws.{pair-IsTuple, is_member-tells}
+use Rattle.am_pair.specs.Pairs.{pairs, second_fields, pair_valid_term, pair_member_term}
 use Rattle.am_pair.specs.lemmas.Parts.{by_more_than_two, as_first}
 
 -- the words at consecutive places

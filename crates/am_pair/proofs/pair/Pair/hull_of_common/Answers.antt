@@ -1,5 +1,5 @@
-use Rattle.std.proofs.Common.{◌≡◌, ℕ, suc, ◌+◌, ◌-◌, ◌%◌, ◌^◌, ◌<◌, slice_index, refl, ◌∙◌, sym, ap, rules, arith}
-use Rattle.std.proofs.Math.Nat.{mod-eq_of_lt, mod-lt}
+use Rattle.std.proofs.Common.{suc, ◌+◌, ◌-◌, ◌%◌, ◌^◌, ◌<◌, slice_index, refl, ◌∙◌, ap, rules, arith}
+use Rattle.std.proofs.Math.Nat.{mod-lt}
 use Rattle.std.proofs.lemmas.Nat.{pow_pos}
 use Rattle.am_bv.specs.Words.{IsWidth}
 use Rattle.am_domain.specs.Walk.{steps}
