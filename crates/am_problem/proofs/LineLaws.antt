@@ -1,14 +1,17 @@
 -- The lines of a problem are spelled as they are read, and read as they are spelled.
 use Rattle.std.proofs.Common.{◌≡◌, ℕ, ◌*◌, ◌<◌, ◌≤◌, ◌^◌, false, codes, ap, refl, arith, lit<}
 use Rattle.am_problem.specs.declared.kind.Kind.{Kind}
-use Rattle.am_problem.specs.declared.kind.Kind.TheVariants.{UInterval, SInterval, KnownBits, Parity, Congruence, WInterval}
+use Rattle.am_problem.specs.declared.kind.Kind.TheVariants.{UInterval, SInterval, KnownBits}
+use Rattle.am_problem.specs.declared.kind.Kind.TheVariants.{Parity, Congruence, WInterval}
+use Rattle.am_problem.specs.declared.kind.Kind.TheVariants.{UIntervalKnown, UIntervalCongruence, WIntervalCongruence}
 use Rattle.am_syntax.specs.declared.limits.Letter.TheVariants.{X, F}
 use Rattle.am_problem.specs.Kinds.{fields_of}
 use Rattle.am_syntax.specs.Spelling.{IsScope}
 use Rattle.am_syntax.specs.Pieces.{number, syntax}
 use Rattle.am_problem.specs.Grammar.{late}
 use Rattle.am_problem.specs.Lines.{Header}
-use Rattle.am_problem.specs.Grammar.{HeaderParts, budgets, budgets_of, budgets_parts, lines_of, lines_parts, header, header_of, header_parts, no_name_more, problem, scope_at, starts}
+use Rattle.am_problem.specs.Grammar.{HeaderParts, budgets, budgets_of, budgets_parts, lines_of, lines_parts, header}
+use Rattle.am_problem.specs.Grammar.{header_of, header_parts, no_name_more, problem, scope_at, starts}
 use Rattle.am_problem.proofs.KindLaws.{domain_law}
 use Rattle.am_syntax.proofs.Laws.{times_law}
 use Rattle.am_syntax.specs.Exact.{IsExact, WithoutKey, always}
@@ -58,6 +61,9 @@ field_count n KnownBits h = omega arith
 field_count n Parity h = omega arith
 field_count n Congruence h = omega arith
 field_count n WInterval h = omega arith
+field_count n UIntervalKnown h = omega arith
+field_count n UIntervalCongruence h = omega arith
+field_count n WIntervalCongruence h = omega arith
 
 pub field_scope : (h : Header) (k : Kind) → header.Good h → IsScope (scope_at h.width F (h.inputs * fields_of k))
 unfolding header number
@@ -71,6 +77,7 @@ problem_law =
     then_law (keyed_law syntax (codes "domain") domain_law) (λ k _.
     then_law (starts_law (fields_of k)) (λ _ _.
     then_law budgets_law (λ _ _.
-    closed_law syntax (codes "end") (rules_law (scope_at h.width F (h.inputs * fields_of k)) (field_scope h k good)) (λ rest. refl))
+    closed_law syntax (codes "end")
+    (rules_law (scope_at h.width F (h.inputs * fields_of k)) (field_scope h k good)) (λ rest. refl))
     (λ _ _ _ _ _ _. tt)) (λ _ _ _ _ _ _. tt)) (λ _ _ _ _ _ _. tt)) (λ _ _ _ _ _ _. (tt, refl)))
     (λ x good. refl) (λ d. refl)

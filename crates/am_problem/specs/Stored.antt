@@ -1,7 +1,9 @@
 -- A problem as contracts see it.
+use Rattle.std.specs.Prelude.{◌≡◌}
 use Rattle.am_problem.specs.declared.parts.Parts.{Parts}
 use Rattle.am_problem.specs.declared.problem.Problem.TheInside.{Inside}
 use Rattle.am_problem.specs.Limits.{IsProblem}
+use Rattle.am_problem.specs.Loads.{load_of}
 use Rattle.am_problem.specs.Problem.{Problem}
 
 abbrev pub seen_parts : Parts → Problem
@@ -22,5 +24,7 @@ seen_parts p = record {
 abbrev pub seen : Inside → Problem
 seen p = seen_parts p.parts
 
-abbrev pub IsInside : Inside → Type 0
-IsInside p = IsProblem (seen p)
+-- it is within all limits, and its load is noted
+pub record IsInside (p : Inside) : Type 0 where
+  pub within : IsProblem (seen p)
+  pub noted : p.load ≡ load_of (seen p)

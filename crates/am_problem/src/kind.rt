@@ -9,6 +9,7 @@ use am_bits::{Congruence, Known, Parity};
 use am_bv::{Term, Width};
 use am_domain::{Domain, Fields};
 use am_interval::{Signed, Unsigned};
+use am_pair::Pair;
 use am_wrap::Wrapped;
 use std::alloc::{AllocError, Global};
 
@@ -27,16 +28,25 @@ pub enum Kind {
     Congruence,
     /// Intervals that may wrap, `w-interval`.
     WInterval,
+    /// Intervals of unsigned numbers with known bits, `u-interval+known-bits`.
+    UIntervalKnown,
+    /// Intervals of unsigned numbers with residues, `u-interval+congruence`.
+    UIntervalCongruence,
+    /// Intervals that may wrap with residues, `w-interval+congruence`.
+    WIntervalCongruence,
 }
 
 /// All of them, in the order in which they are listed.
-const KINDS: [Kind; 6] = [
+const KINDS: [Kind; 9] = [
     Kind::UInterval,
     Kind::SInterval,
     Kind::KnownBits,
     Kind::Parity,
     Kind::Congruence,
     Kind::WInterval,
+    Kind::UIntervalKnown,
+    Kind::UIntervalCongruence,
+    Kind::WIntervalCongruence,
 ];
 
 impl Kind {
@@ -51,6 +61,9 @@ impl Kind {
             Kind::Parity => b"parity",
             Kind::Congruence => b"congruence",
             Kind::WInterval => b"w-interval",
+            Kind::UIntervalKnown => b"u-interval+known-bits",
+            Kind::UIntervalCongruence => b"u-interval+congruence",
+            Kind::WIntervalCongruence => b"w-interval+congruence",
         }
     }
 
@@ -94,6 +107,18 @@ macro_rules! at_domain {
             }
             Kind::WInterval => {
                 let $domain = Wrapped;
+                $call
+            }
+            Kind::UIntervalKnown => {
+                let $domain = Pair::new(Unsigned, Known);
+                $call
+            }
+            Kind::UIntervalCongruence => {
+                let $domain = Pair::new(Unsigned, Congruence);
+                $call
+            }
+            Kind::WIntervalCongruence => {
+                let $domain = Pair::new(Wrapped, Congruence);
                 $call
             }
         }

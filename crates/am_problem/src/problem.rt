@@ -1,6 +1,6 @@
 //! Problems, and what they tell.
 
-ghost use Rattle.std.specs.Prelude.{◌≡◌, IfOk};
+ghost use Rattle.std.specs.Prelude.{◌≡◌};
 ghost use Rattle.std.specs.Option.{option_copied};
 ghost use Rattle.am_problem.specs.Limits.{IsProblem};
 ghost use Rattle.am_problem.specs.Loads.{load_of};
@@ -9,7 +9,6 @@ use crate::kind::Kind;
 use crate::parts::{Name, Parts};
 use am_bv::{Term, Width};
 use am_tree::Grammar;
-use std::alloc::{AllocError, Global};
 use std::marker::Model;
 
 /// A problem: which transformer of which operation is sought, in which domain, and in which language of
@@ -17,6 +16,8 @@ use std::marker::Model;
 #[derive(Drop)]
 pub struct Problem {
     pub(crate) parts: Parts,
+    /// The load of the parts.
+    pub(crate) load: u64,
 }
 
 impl Model for Problem {
@@ -110,9 +111,9 @@ impl Problem {
     }
 
     /// The load: a bound on the gates of each formula of the problem, at most 2^24.
-    pub fn load(&self, alloc: Global) -> Result<u64, AllocError>
-        ensures { IfOk result (λ l. l ≡ load_of self.now) }
+    pub fn load(&self) -> u64
+        ensures { result ≡ load_of self.now }
     {
-        self.parts.load(alloc)
+        self.load
     }
 }

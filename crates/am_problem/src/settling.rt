@@ -77,5 +77,5 @@ fn sized(alloc: Global, parts: Parts) -> Result<Problem, ReadError>
     if load > MOST_LOAD {
         return Err(ReadError::Refused(Refusal::Load(load)));
     }
-    Ok(Problem { parts })
+    Ok(Problem { parts, load })
 }

@@ -1,135 +1,109 @@
-//! Texts with their first refusals, and one call of each public function.
+//! Texts and what they say, and one call of each public function.
 
 use super::*;
-use am_domain::{Domain, Fields};
 use am_syntax::{ReadError, Refusal, open};
-use std::alloc::Global;
+use std::alloc::{AllocError, Global};
 use std::test::Fail;
 
-macro_rules! refused {
-    ($($text:literal $refusal:ident $at:literal;)*) => { [$(($text, Refusal::$refusal($at))),*] };
-}
-
-/// Texts that are no problem's, with their first refusals, as an independent reference has them.
-static REFUSED: [(&str, Refusal); 57] = refused! {
-    "amurth 1\twidth 2 operation 1 x0 domain parity start P depth 1 turns 0 conflicts 1 rule P f0 end" BadByte 8;
-    "amurth 1 width 2 operation 1 x0 domain parity start P depth 1 turns 0 conflicts 1 rule P f0 end\r" BadByte 95;
-    "Amurth 1 width 2 operation 1 x0 domain parity start P depth 1 turns 0 conflicts 1 rule P f0 end" Syntax 0;
-    "amurth 2 width 2 operation 1 x0 domain parity start P depth 1 turns 0 conflicts 1 rule P f0 end" Number 7;
-    "amurth 01 width 2 operation 1 x0 domain parity start P depth 1 turns 0 conflicts 1 rule P f0 end" Number 7;
-    "amurth width 2 operation 1 x0 domain parity start P depth 1 turns 0 conflicts 1 rule P f0 end" Syntax 7;
-    "amurth 1 width 1 operation 1 x0 domain parity start P depth 1 turns 0 conflicts 1 rule P f0 end" Number 15;
-    "amurth 1 width 9 operation 1 x0 domain parity start P depth 1 turns 0 conflicts 1 rule P f0 end" Number 15;
-    "amurth 1 width w operation 1 x0 domain parity start P depth 1 turns 0 conflicts 1 rule P f0 end" Syntax 15;
-    "amurth 1  operation 1 x0 domain parity start P depth 1 turns 0 conflicts 1 rule P f0 end" Syntax 10;
-    "amurth 1 width 2 operation 4 x0 domain parity start P depth 1 turns 0 conflicts 1 rule P f0 end" Number 27;
-    "amurth 1 width 2 operation 0 x0 domain parity start P depth 1 turns 0 conflicts 1 rule P f0 end" Number 27;
-    "amurth 1 width 2 operation 1 x1 domain parity start P depth 1 turns 0 conflicts 1 rule P f0 end" Name 29;
-    "amurth 1 width 2 operation 1 f0 domain parity start P depth 1 turns 0 conflicts 1 rule P f0 end" Name 29;
-    "amurth 1 width 2 operation 1 X domain parity start P depth 1 turns 0 conflicts 1 rule P f0 end" Syntax 29;
-    "amurth 1 width 2 operation 1 4 domain parity start P depth 1 turns 0 conflicts 1 rule P f0 end" Number 29;
-    "amurth 1 width 2 operation 1 ( add x0 ) domain parity start P depth 1 turns 0 conflicts 1 rule P f0 end" Count 38;
-    "amurth 1 width 2 operation 1 ( not x0 x0 ) domain parity start P depth 1 turns 0 conflicts 1 rule P f0 end" Count 38;
-    "amurth 1 width 2 operation 1 ( plus x0 ) domain parity start P depth 1 turns 0 conflicts 1 rule P f0 end" Name 31;
-    "amurth 1 width 2 operation 1 ( ( x0 domain parity start P depth 1 turns 0 conflicts 1 rule P f0 end" Syntax 31;
-    "amurth 1 width 2 operation 1 x0 assume x1 domain parity start P depth 1 turns 0 conflicts 1 rule P f0 end" Name 39;
-    "amurth 1 width 2 operation 1 x0 assume domain parity start P depth 1 turns 0 conflicts 1 rule P f0 end" Name 39;
-    "amurth 1 width 2 operation 1 x0 assume x0 assume x0 domain parity start P depth 1 turns 0 conflicts 1 rule P f0 end" Syntax 42;
-    "amurth 1 width 2 operation 1 x0 domain u-intervals start P depth 1 turns 0 conflicts 1 rule P f0 end" Name 39;
-    "amurth 1 width 2 operation 1 x0 domain ( start P depth 1 turns 0 conflicts 1 rule P f0 end" Syntax 39;
-    "amurth 1 width 2 operation 1 x0 domain Parity start P depth 1 turns 0 conflicts 1 rule P f0 end" Name 39;
-    "amurth 1 width 2 operation 1 x0 domain parity start depth 1 turns 0 conflicts 1 rule P f0 end" Count 52;
-    "amurth 1 width 2 operation 1 x0 domain parity start P P depth 1 turns 0 conflicts 1 rule P f0 end" Count 54;
-    "amurth 1 width 2 operation 1 x0 domain parity start p depth 1 turns 0 conflicts 1 rule P f0 end" Syntax 52;
-    "amurth 1 width 2 operation 1 x0 domain parity start 3 depth 1 turns 0 conflicts 1 rule P f0 end" Syntax 52;
-    "amurth 1 width 2 operation 1 x0 domain parity start PPPPPPPPPPPPPPPPP depth 1 turns 0 conflicts 1 rule P f0 end" Syntax 52;
-    "amurth 1 width 2 operation 1 x0 domain parity start P depth 0 turns 0 conflicts 1 rule P f0 end" Number 60;
-    "amurth 1 width 2 operation 1 x0 domain parity start P depth 6 turns 0 conflicts 1 rule P f0 end" Number 60;
-    "amurth 1 width 2 operation 1 x0 domain parity start P depth 1 turns 4097 conflicts 1 rule P f0 end" Number 68;
-    "amurth 1 width 2 operation 1 x0 domain parity start P depth 1 turns 00 conflicts 1 rule P f0 end" Number 68;
-    "amurth 1 width 2 operation 1 x0 domain parity start P depth 1 turns 0 conflicts 0 rule P f0 end" Number 80;
-    "amurth 1 width 2 operation 1 x0 domain parity start P depth 1 turns 0 conflicts 1000001 rule P f0 end" Number 80;
-    "amurth 1 width 2 operation 1 x0 domain parity start P depth 1 turns 0 conflicts 18446744073709551616 rule P f0 end" Number 80;
-    "amurth 1 width 2 operation 1 x0 domain parity start P depth 1 turns 0 conflicts 1 rule f0 end" Syntax 87;
-    "amurth 1 width 2 operation 1 x0 domain parity start P depth 1 turns 0 conflicts 1 rule p f0 end" Syntax 87;
-    "amurth 1 width 2 operation 1 x0 domain parity start P depth 1 turns 0 conflicts 1 rule P f0 rule P 0 end" Twice 97;
-    "amurth 1 width 2 operation 1 x0 domain parity start P depth 1 turns 0 conflicts 1 rule P f1 end" Name 89;
-    "amurth 1 width 2 operation 1 x0 domain parity start P depth 1 turns 0 conflicts 1 rule P x0 end" Name 89;
-    "amurth 1 width 2 operation 1 x0 domain parity start P depth 1 turns 0 conflicts 1 rule P P end" Syntax 89;
-    "amurth 1 width 2 operation 1 x0 domain parity start P depth 1 turns 0 conflicts 1 rule P ( add P f0 ) end" Syntax 97;
-    "amurth 1 width 2 operation 1 x0 domain parity start P depth 1 turns 0 conflicts 1 rule P ( add f0 P ) end" Syntax 98;
-    "amurth 1 width 2 operation 1 x0 domain parity start P depth 1 turns 0 conflicts 1 rule P ( add P ) end" Count 97;
-    "amurth 1 width 2 operation 1 x0 domain parity start P depth 1 turns 0 conflicts 1 rule P ( not P P ) end" Count 97;
-    "amurth 1 width 2 operation 1 x0 domain parity start P depth 1 turns 0 conflicts 1 rule P ( not ) end" Count 95;
-    "amurth 1 width 2 operation 1 x0 domain parity start P depth 1 turns 0 conflicts 1 rule P ( ) end" Syntax 91;
-    "amurth 1 width 2 operation 1 x0 domain parity start P depth 1 turns 0 conflicts 1 rule P f0" Syntax 91;
-    "amurth 1 width 2 operation 1 x0 domain parity start P depth 1 turns 0 conflicts 1 rule P f0 end end" Syntax 96;
-    "amurth 1 width 2 operation 1 x0 domain parity start P depth 1 turns 0 conflicts 1 rule P f0 end P" Syntax 96;
-    "amurth 1 width 2 operation 1 x0 domain parity start Q depth 1 turns 0 conflicts 1 rule P f0 end" Undefined 52;
-    "amurth 1 width 2 operation 1 x0 domain parity start P depth 1 turns 0 conflicts 1 rule P ( not Q ) end" Undefined 95;
-    "amurth 1 width 2 operation 1 x0 domain parity start P depth 1 turns 0 conflicts 1 rule P ( not Q ) rule R ( not S ) rule Q 0 end" Undefined 112;
-    "amurth 1 width 2 operation 1 x0 domain parity start P depth 1 turns 0 conflicts 1 rule P ( not Q ) rule P 0 end" Twice 104;
-};
-
-macro_rules! texts {
-    ($($text:literal;)*) => { [$($text),*] };
-}
-
-/// Texts of problems.
-static PROBLEMS: [&str; 5] = texts! {
+/// The text of a problem.
+static TEXT: &str =
     "amurth 1 width 2 operation 1 x0 domain parity start P depth 1 turns 0 conflicts 1 rule P f0 end";
-    "amurth 1 width 2 operation 1 x0 domain parity start P depth 1 turns 0\n\nconflicts 1 rule P f0 end";
-    "amurth 1 width 2 operation 1 x0 assume ( ult 1 x0 ) domain parity start P depth 1 turns 0 conflicts 1 rule P f0 end";
-    "amurth 1 width 2 operation 3 ( ite x0 x1 x2 ) domain parity start P depth 1 turns 0 conflicts 1 rule P f0 end";
-    "amurth 1 width 2 operation 1 x0 domain w-interval start P P depth 1 turns 0 conflicts 1 rule P f0 end";
-};
+
+/// Other ends of that text, each from its first word on, and what the text then says: its first refusal, or
+/// its domain and its load. An independent reference has them so.
+static ENDS: &str = "\
+Amurth 1\t = BadByte(8)
+amurth 2 = Number(7)
+width = Syntax(14)
+width 9 = Number(15)
+operation 4 = Number(27)
+operation 1 f0 = Name(29)
+operation 1 4 = Number(29)
+operation 1 (plus x0) = Name(30)
+operation 1 (add x0) = Count(36)
+operation 1 x0 assume x1 = Name(39)
+operation 1 x0 assume x0 assume = Syntax(42)
+domain w-interval- = Name(39)
+domain ( = Syntax(39)
+start depth = Count(52)
+start P P = Count(54)
+start p = Syntax(52)
+depth 6 = Number(60)
+turns 00 = Number(68)
+conflicts 0 = Number(80)
+rule f0 = Syntax(87)
+rule P f0 rule P = Twice(97)
+rule P f1 = Name(89)
+rule P (add P f0) = Syntax(96)
+rule P (not P P) = Count(96)
+rule P (not P) P = Syntax(97)
+rule P (not Q) rule P = Twice(102)
+rule A rule B rule C rule D rule E rule F rule G rule H rule I rule J rule K rule L rule M \
+rule N rule O rule P rule Q = Count(199)
+rule P = Syntax(88)
+end end = Syntax(96)
+start Q depth 1 turns 0 conflicts 1 rule P f0 end = Undefined(52)
+rule P (not Q) rule R (not S) rule Q 0 end = Undefined(109)
+domain u-interval start S S depth 5 turns 0 conflicts 1 rule S (add S T) (add T S) f0 \
+rule T (add S S) f1 end = Slots(370)
+width 8 operation 1 x0 domain parity start S depth 5 turns 3245 conflicts 1 rule S f0 (udiv S S) end = Load(16780496)
+width 8 operation 1 x0 domain parity start S depth 5 turns 3244 conflicts 1 rule S f0 (udiv S S) end = Parity 16775328
+operation 1 x0 assume (ult 1 x0) domain parity start P depth 1 turns 0 conflicts 1 rule P f0 end = Parity 156
+operation 3 (ite x0 x1 x2) domain u-interval start P P depth 1 turns 0 conflicts 1 rule P f5 end = UInterval 172
+domain s-interval start P P depth 1 turns 0 conflicts 1 rule P f1 end = SInterval 168
+domain known-bits start P P depth 1 turns 0 conflicts 1 rule P f1 end = KnownBits 168
+domain congruence start P P depth 1 turns 0 conflicts 1 rule P f1 end = Congruence 176
+domain w-interval start P P depth 1 turns 0 conflicts 1 rule P f1 end = WInterval 176
+domain u-interval+known-bits start P P P P depth 1 turns 0 conflicts 1 rule P f3 end = UIntervalKnown 432
+domain u-interval+congruence start P P P P depth 1 turns 0 conflicts 1 rule P f3 end = UIntervalCongruence 416
+domain w-interval+congruence start P P P P depth 1 turns 0 conflicts 1 rule P f3 end = WIntervalCongruence 424";
+
+/// The text with another end.
+fn text_with(alloc: Global, end: &str) -> Result<String, AllocError> {
+    let word = end.split_once(' ').map_or(end, |(word, _)| word);
+    let kept = TEXT.split_once(word).map_or("", |(kept, _)| kept);
+    format!(in alloc; "{kept}{end}")
+}
+
+/// The first refusal of a text, or its domain and its load.
+fn said(alloc: Global, text: &str) -> Result<String, AllocError> {
+    match read_problem(alloc, text.as_bytes()) {
+        Ok(problem) => {
+            let kind = problem.kind();
+            let load = problem.load();
+            format!(in alloc; "{kind:?} {load}")
+        }
+        Err(ReadError::Refused(refusal)) => format!(in alloc; "{refusal:?}"),
+        Err(ReadError::NoMemory) => Err(AllocError),
+    }
+}
 
 #[test]
-fn texts_are_refused_at_their_places(rt: HostRuntime) -> Result<(), Fail> {
-    for (text, refusal) in REFUSED {
-        let result = read_problem(rt.alloc(), text.as_bytes());
-        assert_eq!(rt; result.err(), Some(ReadError::Refused(refusal)));
+fn texts_say_what_the_reference_has(rt: HostRuntime) -> Result<(), Fail> {
+    for line in ENDS.lines() {
+        let (end, expected) = line.split_once(" = ").ok_or("no outcome")?;
+        let text = text_with(rt.alloc(), end)?;
+        let said = said(rt.alloc(), &text)?;
+        assert_eq!(rt; said.as_str(), expected, "{end}");
     }
     Ok(())
 }
 
 #[test]
-fn texts_of_problems_are_read(rt: HostRuntime) -> Result<(), Fail> {
-    for text in PROBLEMS {
-        let problem = read_problem(rt.alloc(), text.as_bytes())?;
-        assert_eq!(rt; problem.width().bits(), 2);
-        assert_eq!(rt; problem.turns(), 0);
-        assert_eq!(rt; problem.conflicts(), 1);
-        assert_eq!(rt; problem.grammar().depth, 1);
-        assert_eq!(rt; problem.names().len(), 1);
-    }
-    Ok(())
-}
-
-/// Nothing is enumerated: 62 slots of depth 5, and 4096 or 8 turns.
-static MANY_TURNS: &str =
-    "amurth 1 width 8 operation 2 (add x0 x1) domain u-interval start S S depth 5 turns 4096 conflicts 1000 rule S f0 f1 f2 f3 (udiv S S) (udiv S S) (udiv S S) (udiv S S) (udiv S S) (udiv S S) (udiv S S) (udiv S S) end";
-
-static FEW_TURNS: &str =
-    "amurth 1 width 8 operation 2 (add x0 x1) domain u-interval start S S depth 5 turns 8 conflicts 1000 rule S f0 f1 f2 f3 (udiv S S) (udiv S S) (udiv S S) (udiv S S) (udiv S S) (udiv S S) (udiv S S) (udiv S S) end";
-
-static MANY_SLOTS: &str =
-    "amurth 1 width 2 operation 1 x0 domain u-interval start S S depth 5 turns 0 conflicts 1 rule S (add S T) (add T S) f0 rule T (add S S) f1 end";
-
-#[test]
-fn large_problems_are_refused(rt: HostRuntime) -> Result<(), Fail> {
-    let alloc = rt.alloc();
-    let heavy = read_problem(alloc, MANY_TURNS.as_bytes());
-    assert_eq!(rt;
-        heavy.err(),
-        Some(ReadError::Refused(Refusal::Load(300_563_736)))
-    );
-    assert_eq!(rt;
-        read_problem(alloc, FEW_TURNS.as_bytes())?.load(alloc)?,
-        733_464
-    );
-    let wide = read_problem(alloc, MANY_SLOTS.as_bytes());
-    assert_eq!(rt; wide.err(), Some(ReadError::Refused(Refusal::Slots(370))));
+fn a_problem_tells_its_parts(rt: HostRuntime) -> Result<(), Fail> {
+    let text =
+        b"amurth 1 width 3 operation 2 (add x0 x1) assume x1 domain parity start P depth 4 turns 5 conflicts 6
+        rule P f0 f1 (not Q) rule Q end";
+    let problem = read_problem(rt.alloc(), text.as_slice())?;
+    assert_eq!(rt; problem.width().bits(), 3);
+    assert_eq!(rt; problem.inputs(), 2);
+    assert_eq!(rt; problem.operation().nodes(), 3);
+    assert_eq!(rt; problem.assume().map(|term| term.nodes()), Some(1));
+    assert_eq!(rt; problem.kind().name(), b"parity".as_slice());
+    assert_eq!(rt; problem.names().len(), 2);
+    assert_eq!(rt; problem.grammar().depth, 4);
+    assert_eq!(rt; problem.turns(), 5);
+    assert_eq!(rt; problem.conflicts(), 6);
     Ok(())
 }
 
