@@ -12,3 +12,7 @@ pub mod Named
 pub mod Formed
 pub mod TextLaws
 pub mod Indexing
+pub mod Cutting
+pub mod Inputs
+pub mod Fitting
+pub mod Laws

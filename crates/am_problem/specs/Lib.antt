@@ -3,6 +3,8 @@ pub mod Problem
 pub mod Loads
 pub mod Limits
 pub mod Stored
+pub mod Examples
+pub mod ExampleLaws
 pub mod Lines
 pub mod Grammar
 pub mod Texts

@@ -6,6 +6,10 @@
 //! one, and [`problem_at`] one that stands in a longer text: a [`Draft`] has what the lines say, and
 //! [`Draft::settle`] looks up the names and tests the limits.
 //!
+//! A [`Transformer`] has a term for each field of the result. A [`Positive`] example says what a
+//! transformer's result has to have at some inputs, a [`Negative`] one what it may not have, and a
+//! problem tells which examples are true and which a transformer satisfies.
+//!
 //! # What is proved
 //!
 //! [`Kind`] keeps all laws of a domain, by those of the domain that it names. Each problem is within all
@@ -14,25 +18,38 @@
 //! grammar in `specs/Grammar.antt`; then of a name without a rule; then of the slots; then of the load. For
 //! each text exactly one of the two exists ([`texts_are_settled`]). [`Problem::load`] is the bound on the
 //! gates of the problem's formulas in `specs/Loads.antt`.
+//!
+//! [`Problem::result`] is what a transformer answers, [`Problem::is_valid`], [`Problem::assumed`] and
+//! [`Problem::is_true`] are true exactly where inputs are abstract values, words meet the assumption and
+//! a positive example is true, and [`Problem::satisfies_positive`] and [`Problem::satisfies_negative`]
+//! exactly where a transformer covers and excludes, as am_domain defines these words over the
+//! problem's question. Rows of examples stand for inputs by `specs/Examples.antt`; the laws of rows
+//! stand in `specs/ExampleLaws.antt`. These calls take no memory.
 #![tactic(auto)]
 
 mod draft;
+mod examples;
 mod header;
 mod kind;
 mod limits;
 mod numbering;
 mod parts;
 mod problem;
+mod rows;
 mod rules;
 mod settling;
 mod text;
 
 pub use draft::Draft;
+pub use examples::{Negative, Negatives, Positive, Positives, Transformer};
 pub use kind::Kind;
 pub use limits::{MOST_CONFLICTS, MOST_INPUTS, MOST_LOAD, MOST_NODES, MOST_SLOTS, MOST_TURNS};
 pub use parts::{Name, Names};
 pub use problem::Problem;
+pub use rows::{Inputs, ShortRow, WordRow};
 pub use text::{problem_at, read_problem, texts_are_settled};
 
+#[cfg(test)]
+mod examples_tests;
 #[cfg(test)]
 mod tests;
