@@ -1,5 +1,5 @@
 -- The circuits of several terms, one after another.
-use Rattle.std.proofs.Common.{◌≡◌, ℕ, ◌+◌, ◌<◌, ◌≤◌, Bool, List, [], ◌∷◌, map, length, sum_by, refl, sym, ◌∙◌, ap, arith}
+use Rattle.std.proofs.Common.{◌≡◌, ℕ, suc, ◌<◌, ◌≤◌, Bool, List, [], ◌∷◌, map, length, sum_by, refl, sym, ap, arith}
 use Rattle.std.specs.Prelude.{All, IsTrue}
 use Rattle.std.proofs.lemmas.List.Sums.{sum_by-cons}
 use Rattle.std.proofs.lemmas.List.Elements.{All-nil, All-cons, All-head, All-tail}
@@ -19,7 +19,7 @@ pub record ReadEach (w : ℕ) (fields : List (List ℕ)) (v : ℕ → Bool) (ts 
   pub values : map (reads v) words ≡ map (λ t. val w t (map (reads v) fields)) ts
 
 -- one word for each term, of literals of variables below a number
-pub record AreWordsOf (w : ℕ) (ts : List Term) (vars : ℕ) (words : List (List ℕ)) : Type 0 where
+pub record AreWordsFor (w : ℕ) (ts : List Term) (vars : ℕ) (words : List (List ℕ)) : Type 0 where
   pub many : length words ≡ length ts
   pub each : All (IsWord w vars) words
 
@@ -42,7 +42,7 @@ module _ (w : ℕ) (one : 1 ≤ w) (fields : List (List ℕ)) where
 
   -- the circuits of terms are at most as many gates as they weigh
   pub Makes-terms : (ts : List Term) → FitEach ts → (p : Place) → 0 < p.next → All (IsWord w p.next) fields →
-      MakesGates (in_turn (map (blasted w fields) ts)) (sum_by (weight w) ts) (AreWordsOf w ts) p
+      MakesGates (in_turn (map (blasted w fields) ts)) (sum_by (weight w) ts) (AreWordsFor w ts) p
   unfolding in_turn
   Makes-terms [] fit p pos h = Makes-answer _ (record { many = refl; each = All-nil (IsWord w p.next) })
   Makes-terms (t ∷ ts) fit p pos h =

@@ -3,5 +3,5 @@ pub use Rattle.am_blast.proofs.Words.{bit-le, reads-lt, reads-zeros, reads-oppos
 pub use Rattle.am_blast.proofs.Bits.{Means-bitwise, Means-choose, Means-choice, Makes-bitwise, Makes-choice}
 pub use Rattle.am_blast.proofs.Table.{circuit}
 pub use Rattle.am_blast.proofs.Blasted.{Means-blasted, Makes-blasted, blasted-Const, blasted-Field, blasted-Node, length-constant, All-constant, reads-constant, IsWord-constant, Follows-in_turn_at, Follows-in_turn_end}
-pub use Rattle.am_blast.proofs.InTurn.{ReadEach, AreWordsOf, FitEach, Means-terms, Makes-terms}
+pub use Rattle.am_blast.proofs.InTurn.{ReadEach, AreWordsFor, FitEach, Means-terms, Makes-terms}
 pub use Rattle.am_blast.proofs.Equality.{Means-nonzero, Makes-nonzero}

@@ -10,7 +10,7 @@ use Rattle.am_problem.specs.Kinds.{fields_of}
 use Rattle.am_problem.specs.Problem.{Problem}
 
 -- a row cut into so many tuples of so many words: the first words are the first tuple, the next ones the second
-unfoldable pub split : ℕ → ℕ → List ℕ → List (List ℕ)
+unfoldable pub split : {A : Type 0} → ℕ → ℕ → List A → List (List A)
 split fields zero row = []
 split fields (suc count) row = take fields row ∷ split fields count (drop fields row)
 
