@@ -1,4 +1,4 @@
-//! Texts and what they say, and one call of each public function.
+//! What texts say, as an independent reference has it, and what problems and drafts tell.
 
 use super::*;
 use am_syntax::{ReadError, Refusal, open};
