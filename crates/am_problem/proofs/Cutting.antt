@@ -38,8 +38,9 @@ unfolding split
 concat-split fields zero [] e = refl
 concat-split fields zero (c ∷ row) e = absurd (omega arith)
 concat-split fields (suc count) row e =
-    let rest : length (drop fields row) ≡ count * fields = omega (arith, length-drop fields row, suc-mul count fields) in
-    ap (λ xs. take fields row ++ xs) (concat-split fields count (drop fields row) rest) ∙ take-append-drop fields row
+    let rest = drop fields row in
+    let long : length rest ≡ count * fields = omega (arith, length-drop fields row, suc-mul count fields) in
+    ap (λ xs. take fields row ++ xs) (concat-split fields count rest long) ∙ take-append-drop fields row
 
 first-tuple : (fields : ℕ) (a rest : List ℕ) → length a ≡ fields → take fields (a ++ rest) ≡ a
 first-tuple fields a rest e = ap (λ n. take n (a ++ rest)) (sym e) ∙ take-append_seam a rest

@@ -100,7 +100,8 @@ module _ (p : Problem) (formed : IsFormed p) where
   derived-fits zero n t h = absurd h
   derived-fits (suc d) n t h =
       let by = production_at p.rules n (production_of t) in
-      let whole = production-fits (Derives p.rules d) (derived-fits d) by (production-is n (production_of t)) (children_of t) h in
+      let is = production-is n (production_of t) in
+      let whole = production-fits (Derives p.rules d) (derived-fits d) by is (children_of t) h in
       subst Fits (sym (term-by p.rules n t)) whole
 
   derivable-fits : (derived : List Term) → AreDerivable p.rules p.starts p.depth derived → IsTransformer p derived

@@ -47,7 +47,10 @@ pub rows_are_inputs : RowsAreInputs
 rows_are_inputs p row is =
     let tuples = inputs_are_tuples p row is in (
       λ are i d below. (are.values i d below).valid,
-      λ valid. record { counted = tuples.0; values = λ i d below. record { tuple = tuples.1 i d below; valid = valid i d below } },
+      λ valid. record {
+        counted = tuples.0;
+        values = λ i d below. record { tuple = tuples.1 i d below; valid = valid i d below };
+      },
     )
 
 -- the input at a place is the part of the row with its fields

@@ -96,7 +96,8 @@ ResultsAreValues = (p : Problem) (terms : List Term) (row : List ℕ) → IsRow 
 
 -- the result of a transformer is a tuple
 abbrev pub ResultsAreTuples : Type 0
-ResultsAreTuples = (p : Problem) → IsFormed p → (terms : List Term) (row : List ℕ) → IsTransformer p terms → IsRow p row →
+ResultsAreTuples = (p : Problem) → IsFormed p → (terms : List Term) (row : List ℕ) →
+    IsTransformer p terms → IsRow p row →
     IsTuple p.width (fields_of p.kind) (results (question_of p) terms (inputs_of p row))
 
 -- the value of an operation is a word

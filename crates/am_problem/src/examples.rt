@@ -8,7 +8,7 @@ ghost use Rattle.am_domain.specs.Tuple.{IsTuple};
 ghost use Rattle.am_problem.specs.Examples.{AreWordsOf, IsNegative, IsPositive, IsRow, IsTransformer};
 ghost use Rattle.am_problem.specs.Examples.{all_fields, inputs_of, negative_of, positive_of};
 ghost use Rattle.am_problem.specs.Kinds.{fields_of};
-ghost use Rattle.am_problem.specs.Problem.{IsAssumed, question_of};
+ghost use Rattle.am_problem.specs.Problem.{question_of};
 
 use crate::problem::Problem;
 use crate::rows::{Inputs, WordRow};

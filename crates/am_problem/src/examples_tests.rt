@@ -1,12 +1,12 @@
 //! What examples say of a division whose divisor isn't 0, as an independent reference has it.
 
-ghost use Rattle.std.specs.Prelude.{◌≤◌, ◌<◌, ◌^◌, IfOk, IsTrue, length};
+ghost use Rattle.std.specs.Prelude.{◌≤◌, length};
 ghost use Rattle.am_bv.specs.Words.{AreWords};
 ghost use Rattle.am_problem.specs.Examples.{IsTransformer};
 
 use crate::{Inputs, Negative, Positive, Problem, ShortRow, Transformer, WordRow, read_problem};
 use am_bv::{Op, Term, Width};
-use am_domain::{Domain, Fields};
+use am_domain::Domain;
 use std::alloc::{AllocError, Global};
 use std::process::Abort;
 use std::test::Fail;

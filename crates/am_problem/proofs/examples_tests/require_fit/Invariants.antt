@@ -1,4 +1,4 @@
-use Rattle.std.proofs.Common.{◌≡◌, take}
+use Rattle.std.proofs.Common.{take}
 use Rattle.std.specs.Prelude.{IsTrue, All}
 use Rattle.am_bv.specs.Terms.{fits}
 use Rattle.am_problem.specs.Examples.{all_fields}

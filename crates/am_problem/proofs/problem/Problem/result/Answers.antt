@@ -11,8 +11,9 @@ pub returns-clause-value : goal.returns-clause-value
 returns-clause-value c =
     let p = c.args.self.now in
     let row = c.args.inputs.now in
-    let past : length c.args.t.now ≤ c.loop-term.term-index = rw c.as_slice-term-items.ensures at c.loop-term-test.false in
-    c.loop-term.invariant ∙ ap (map (λ t. val p.width t row)) (take_all c.loop-term.term-index c.args.t.now past)
+    let i = c.loop-term.term-index in
+    let past : length c.args.t.now ≤ i = rw c.as_slice-term-items.ensures at c.loop-term-test.false in
+    c.loop-term.invariant ∙ ap (map (λ t. val p.width t row)) (take_all i c.args.t.now past)
     ∙ sym (results_are_values p c.args.t.now row c.requires.row)
 
 pub returns-clause-tuple : goal.returns-clause-tuple
