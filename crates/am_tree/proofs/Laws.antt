@@ -5,3 +5,4 @@ pub use Rattle.am_tree.proofs.Formed.{short-production, inside, few, formed-at, 
 pub use Rattle.am_tree.proofs.Offers.{IsOffered, Stands, are_offered, stands_each, same-refl, same-true, Rising, offered_rise, offered_has}
 pub use Rattle.am_tree.proofs.Inside.{next-inside, shared-inside, length-level, slots-last, slots-above, length-above}
 pub use Rattle.am_tree.proofs.Loops.{drop-from}
+pub use Rattle.am_tree.proofs.Listing.{derived_are_listed, tuples_are_listed, trees_are_counted, tuples_are_counted}

@@ -8,4 +8,5 @@ pub mod Bounds
 pub mod Totals
 pub mod Derivations
 pub mod Matched
+pub mod Listing
 pub mod Laws

@@ -2,5 +2,6 @@ pub mod Counts
 pub mod Grammars
 pub mod Slots
 pub mod Trees
+pub mod Listed
 pub mod Weights
 pub mod inside

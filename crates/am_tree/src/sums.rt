@@ -38,8 +38,8 @@ impl Grammar {
         requires lens { (length last.items ≡ length self.now.rules) × (length inner.items ≡ length self.now.rules) }
         requires last { All (λ x. x ≤ 2 ^ 21) last.items }
         requires inner { All (λ x. x ≤ 2 ^ 21) inner.items }
-        ensures { result ≡
-            total self.now.rules (slice_index last.items) (slice_index inner.items) (self.now.depth - 1) self.now.starts }
+        ensures { let g = self.now in result ≡
+            total g.rules (slice_index last.items) (slice_index inner.items) (g.depth - 1) g.starts }
     {
         let mut sums = last;
         for _ in 0..self.depth - 1 {
