@@ -1,5 +1,6 @@
 -- The grammar of a problem's text, line by line.
-use Rattle.std.specs.Prelude.{◌≡◌, ℕ, ◌-◌, ◌*◌, ◌<◌, Bool, false, ◌&&◌, ◌||◌, not, ◌==◌, nat_le, if◌then◌else◌, List, [], ◌∷◌, length, map, sum_by, Option, Result, Ok, Err, bytes_eq, codes, ◌⊎◌, IsTrue, find}
+use Rattle.std.specs.Prelude.{◌≡◌, ℕ, ◌-◌, ◌*◌, ◌<◌, Bool, false, ◌&&◌, ◌||◌, not, ◌==◌, nat_le, if◌then◌else◌, List}
+use Rattle.std.specs.Prelude.{[], ◌∷◌, length, map, sum_by, Option, Result, Ok, Err, bytes_eq, codes, ◌⊎◌, IsTrue, find}
 use Rattle.std.specs.List.{list_any}
 use Rattle.std.proofs.Common.{inl, inr}
 use Rattle.am_bv.specs.Operators.{arity}
@@ -16,7 +17,8 @@ use Rattle.am_problem.specs.declared.limits.TheConstants.{MOST_CONFLICTS, MOST_I
 use Rattle.am_problem.specs.Kinds.{all_kinds, fields_of, kind_name}
 use Rattle.am_syntax.specs.Numerals.{is_name}
 use Rattle.am_syntax.specs.Readers.{Word, Words}
-use Rattle.am_syntax.specs.Pieces.{◌▹◌, Piece, choice, closed, closed_or, count, keyed, keyed_or, name_or, next_is, number, optional, repeat, seen_as, times, token}
+use Rattle.am_syntax.specs.Pieces.{◌▹◌, Piece, choice, closed, closed_or, count, keyed, keyed_or, name_or, next_is}
+use Rattle.am_syntax.specs.Pieces.{number, optional, repeat, seen_as, times, token}
 use Rattle.am_syntax.specs.Names.{is_op_name, named, operator}
 use Rattle.am_syntax.specs.Terms.{term_within}
 use Rattle.am_problem.specs.Lines.{Budgets, Lines, Header, Production, Rule, leaf, node}
@@ -100,7 +102,8 @@ opening room = token (opening_judge room) (λ _. codes "(") (λ _. 0 < room)
 
 -- an operator, as many nonterminals as its arity, and a parenthesis
 unfoldable pub node_production : ℕ → Piece (Unit {0} × (Op × List Word))
-node_production room = opening room ▹ λ _. operator ▹ λ op. closed_or count (codes ")") (times (λ _. name_before (codes ")")) (arity op))
+node_production room =
+    opening room ▹ λ _. operator ▹ λ op. closed_or count (codes ")") (times (λ _. name_before (codes ")")) (arity op))
 
 -- a leaf, which no node is left for where no production is
 abbrev pub leaf_production : Scope → ℕ → Piece Term
@@ -122,7 +125,8 @@ production_parts (leaf t) = inr t
 production_parts (node op names) = inl (tt, (op, names))
 
 unfoldable pub production : Scope → ℕ → Piece Production
-production scope room = seen_as production_of production_parts (choice opens_names (node_production room) (leaf_production scope room))
+production scope room =
+    seen_as production_of production_parts (choice opens_names (node_production room) (leaf_production scope room))
 
 abbrev pub has_name : List Word → Word → Bool
 has_name names name = list_any (bytes_eq name) names
@@ -132,11 +136,14 @@ names_of rules = map (λ (r : Rule). r.name) rules
 
 abbrev pub rule_name_judge : List Rule → Word → Result Word Cause
 rule_name_judge seen v =
-    if is_name v then (if nat_le MOST_RULES (length seen) then Err Count else if has_name (names_of seen) v then Err Twice else Ok v) else Err Syntax
+    if is_name v then (if nat_le MOST_RULES (length seen) then Err Count else if has_name (names_of seen) v then Err
+    Twice else Ok v) else Err Syntax
 
 -- the name of a rule behind other rules
 unfoldable pub rule_name : List Rule → Piece Word
-rule_name seen = token (rule_name_judge seen) (λ v. v) (λ v. IsTrue (is_name v) × (length seen < MOST_RULES) × (has_name (names_of seen) v ≡ false))
+rule_name seen =
+    token (rule_name_judge seen) (λ v. v) (λ v. IsTrue (is_name v) × (length seen < MOST_RULES) ×
+    (has_name (names_of seen) v ≡ false))
 
 -- how many productions rules have together
 abbrev pub made : List Rule → ℕ
@@ -157,7 +164,9 @@ abbrev pub rule_parts : Rule → Word × List Production
 rule_parts r = (r.name, r.productions)
 
 unfoldable pub rule : Scope → List Rule → Piece Rule
-rule scope seen = seen_as rule_of rule_parts (keyed (codes "rule") (rule_name seen ▹ λ _. productions scope (MOST_PRODUCTIONS - made seen)))
+rule scope seen =
+    seen_as rule_of rule_parts (keyed (codes "rule")
+    (rule_name seen ▹ λ _. productions scope (MOST_PRODUCTIONS - made seen)))
 
 unfoldable pub rules : Scope → Piece (List Rule)
 rules scope = repeat (next_is (codes "rule")) (rule scope)

@@ -1,5 +1,6 @@
 -- A problem's whole text: what it says, and the first refusal of each that says nothing.
-use Rattle.std.specs.Prelude.{◌≡◌, ℕ, Bool, ◌&&◌, not, nat_lt, if◌then◌else◌, List, [], ◌∷◌, map, slice_index_or, bytes_eq, codes, Option, Some, None, Result, Ok, Err, ◌⊎◌}
+use Rattle.std.specs.Prelude.{◌≡◌, ℕ, Bool, ◌&&◌, not, nat_lt, if◌then◌else◌, List, [], ◌∷◌, map, slice_index_or}
+use Rattle.std.specs.Prelude.{bytes_eq, codes, Option, Some, None, Result, Ok, Err, ◌⊎◌}
 use Rattle.std.specs.List.{position_or_len}
 use Rattle.am_text.specs.Tokens.{Placed, bad_byte, tokens_at, words_of}
 use Rattle.am_syntax.specs.Numerals.{is_name}
@@ -61,7 +62,8 @@ named_production names (Node op args) = node op (map (name_at names) args)
 abbrev pub named_rules : List Word → List Word → Rules → List Rule
 named_rules names [] rules = []
 named_rules names (v ∷ vs) [] = []
-named_rules names (v ∷ vs) (ps ∷ rules) = (record { name = v; productions = map (named_production names) ps }) ∷ named_rules names vs rules
+named_rules names (v ∷ vs) (ps ∷ rules) =
+    (record { name = v; productions = map (named_production names) ps }) ∷ named_rules names vs rules
 
 -- the lines of a problem
 abbrev pub named : Problem → Lines

@@ -1,25 +1,19 @@
 //! The lines of a problem before its rules.
 
-ghost use Rattle.std.specs.Prelude.{◌≡◌, ◌-◌, ◌≤◌, ◌<◌, ◌^◌, IfOk, bytes_eq, codes, length, sum_by};
-ghost use Rattle.std.specs.List.{list_any};
-ghost use Rattle.am_bv.specs.Operators.{arity};
-ghost use Rattle.am_text.specs.Tokens.{words};
+ghost use Rattle.std.specs.Prelude.{◌≤◌, IfOk, codes};
 ghost use Rattle.am_syntax.specs.Pieces.{key_or, keyed, number, optional, times};
-ghost use Rattle.am_syntax.specs.Spelling.{IsScope};
-ghost use Rattle.am_syntax.specs.Names.{is_op_name};
-ghost use Rattle.am_syntax.specs.Readers.{Gives, Makes, Says};
-ghost use Rattle.am_problem.specs.Kinds.{fields_of};
-ghost use Rattle.am_problem.specs.Grammar.{budgets, domain, header, leaf_production, name_before, no_name_more, node_production, opening, opens_names, problem, production, productions, rule, rule_name, rule_name_judge, rules, small_term, starts};
-ghost use Rattle.am_problem.specs.StoredLines.{seen_budgets, seen_lines, seen_header, seen_names, seen_production, seen_productions, seen_rule, seen_rules, seen_scope};
+ghost use Rattle.am_syntax.specs.Readers.{Gives, Makes};
+ghost use Rattle.am_problem.specs.Grammar.{budgets, domain, header, name_before, no_name_more};
+ghost use Rattle.am_problem.specs.Grammar.{small_term, starts};
+ghost use Rattle.am_problem.specs.StoredLines.{seen_budgets, seen_header, seen_names, seen_scope};
 
 use crate::draft::{Budgets, Header, Scope};
 use crate::kind::Kind;
 use crate::limits::{MOST_CONFLICTS, MOST_INPUTS, MOST_NODES, MOST_TURNS};
-use am_bv::{Op, Row, Term, Width};
+use am_bv::{Row, Term, Width};
 use am_syntax::{
-    Cause, Each, Failure, Item, Judge, Letter, Listed, TermLimits, is_name, is_next, no_name,
-    op_named, read_list, read_times, take, take_closing, take_key, take_number, take_operator,
-    take_term,
+    Cause, Each, Failure, Judge, Letter, TermLimits, is_name, is_next, no_name, read_times, take,
+    take_key, take_number, take_term,
 };
 use am_text::Cursor;
 use am_tree::MOST_DEPTH;
@@ -32,7 +26,7 @@ fn take_keyed_number(
     least: u64,
     most: u64,
 ) -> Result<u64, Cause>
-    ensures value { Gives (λ n. n) result text.new ((keyed word.now (number least most)).read text.old) }
+    ensures value { Gives (λ n. n) result text.old text.new (keyed word.now (number least most)).read }
     ensures range { IfOk result (λ n. (least ≤ n) × (n ≤ most)) }
 {
     take_key(text, word)?;
@@ -41,7 +35,7 @@ fn take_keyed_number(
 
 /// The term of an operation or of an assumption.
 fn read_small_term(alloc: Global, text: &mut Cursor<'_>, scope: &Scope) -> Result<Term, Failure>
-    ensures { Makes (λ t. t) result text.new ((small_term (seen_scope scope.now)).read text.old) }
+    ensures { Makes (λ t. t) result text.old text.new (small_term (seen_scope scope.now)).read }
 {
     let limits = TermLimits {
         letter: scope.letter,
@@ -54,7 +48,8 @@ fn read_small_term(alloc: Global, text: &mut Cursor<'_>, scope: &Scope) -> Resul
 
 /// `assume` and a term, or nothing.
 fn read_assume(alloc: Global, text: &mut Cursor<'_>, scope: &Scope) -> Result<Option<Term>, Failure>
-    ensures { Makes (λ t. t) result text.new ((optional (codes "assume") (small_term (seen_scope scope.now))).read text.old) }
+    ensures { let term = small_term (seen_scope scope.now) in
+        Makes (λ t. t) result text.old text.new (optional (codes "assume") term).read }
 {
     if is_next(text, b"assume") {
         take_key(text, b"assume")?;
@@ -67,7 +62,7 @@ fn read_assume(alloc: Global, text: &mut Cursor<'_>, scope: &Scope) -> Result<Op
 /// `amurth 1`, `width`, `operation` and maybe `assume`.
 #[tactic(auto, unfolding(crate::specs::Grammar::header))]
 pub(crate) fn read_header(alloc: Global, text: &mut Cursor<'_>) -> Result<Header, Failure>
-    ensures value { Makes seen_header result text.new (header.read text.old) }
+    ensures value { Makes seen_header result text.old text.new header.read }
     ensures range { IfOk result (λ h. (h.width ≤ 8) × (h.inputs ≤ 3)) }
 {
     take_keyed_number(text, b"amurth", 1, 1)?;
@@ -90,7 +85,7 @@ pub(crate) fn read_header(alloc: Global, text: &mut Cursor<'_>) -> Result<Header
 
 /// `width` and the number of bits.
 fn read_width(text: &mut Cursor<'_>) -> Result<Width, Cause>
-    ensures value { Gives (λ w. w) result text.new ((keyed (codes "width") (number 2 8)).read text.old) }
+    ensures value { Gives (λ w. w) result text.old text.new (keyed (codes "width") (number 2 8)).read }
     ensures range { IfOk result (λ w. w ≤ 8) }
 {
     let bits = take_keyed_number(text, b"width", 2, 8)? as u32;
@@ -123,14 +118,14 @@ impl<'a> Judge<'a> for DomainName {
 /// Takes the name of a domain.
 #[tactic(auto, unfolding(crate::specs::Grammar::domain))]
 fn take_domain(text: &mut Cursor<'_>) -> Result<Kind, Cause>
-    ensures { Gives (λ kind. kind) result text.new (domain.read text.old) }
+    ensures { Gives (λ kind. kind) result text.old text.new domain.read }
 {
     take(text, &DomainName)
 }
 
 /// `domain` and its name.
 pub(crate) fn read_domain(text: &mut Cursor<'_>) -> Result<Kind, Cause>
-    ensures { Gives (λ kind. kind) result text.new ((keyed (codes "domain") domain).read text.old) }
+    ensures { Gives (λ kind. kind) result text.old text.new (keyed (codes "domain") domain).read }
 {
     take_key(text, b"domain")?;
     take_domain(text)
@@ -176,7 +171,7 @@ pub(crate) fn read_names<'a>(
     early: &[u8],
     count: u32,
 ) -> Result<Row<&'a [u8]>, Failure>
-    ensures { Makes seen_names result text.new ((times (λ _. name_before early.now) count).read text.old) }
+    ensures { Makes seen_names result text.old text.new (times (λ _. name_before early.now) count).read }
 {
     read_times(
         alloc,
@@ -195,7 +190,7 @@ pub(crate) fn read_starts<'a>(
     text: &mut Cursor<'a>,
     fields: u32,
 ) -> Result<Row<&'a [u8]>, Failure>
-    ensures { Makes seen_names result text.new ((starts fields).read text.old) }
+    ensures { Makes seen_names result text.old text.new (starts fields).read }
 {
     take_key(text, b"start")?;
     read_names(alloc, text, b"depth", fields)
@@ -234,7 +229,7 @@ impl<'a> Judge<'a> for DepthKey {
 /// Takes `depth`.
 #[tactic(auto, unfolding(am_syntax::specs::Pieces::key_or))]
 fn take_depth(text: &mut Cursor<'_>) -> Result<(), Cause>
-    ensures { Gives (λ _. tt) result text.new ((key_or no_name_more (codes "depth")).read text.old) }
+    ensures { Gives (λ _. tt) result text.old text.new (key_or no_name_more (codes "depth")).read }
 {
     take(text, &DepthKey)
 }
@@ -242,7 +237,7 @@ fn take_depth(text: &mut Cursor<'_>) -> Result<(), Cause>
 /// `depth`, `turns` and `conflicts`.
 #[tactic(auto, unfolding(crate::specs::Grammar::budgets))]
 pub(crate) fn read_budgets(text: &mut Cursor<'_>) -> Result<Budgets, Cause>
-    ensures { Gives seen_budgets result text.new (budgets.read text.old) }
+    ensures { Gives seen_budgets result text.old text.new budgets.read }
 {
     take_depth(text)?;
     let depth = take_number(text, 1, u64::from(MOST_DEPTH))? as u32;

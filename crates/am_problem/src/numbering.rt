@@ -113,7 +113,8 @@ fn number_productions<'a>(
     productions: &[Production<'a>],
 ) -> Result<Productions, AllocError>
     requires { length names.now.keys ≤ 16 }
-    ensures { IfOk result (λ r. r ≡ map (numbered_production (seen_names names.now.keys)) (seen_productions productions.now)) }
+    ensures { let known = seen_names names.now.keys in
+        IfOk result (λ r. r ≡ map (numbered_production known) (seen_productions productions.now)) }
 {
     let mut numbered = Productions::new(alloc);
     for production in productions {

@@ -1,24 +1,24 @@
 //! The rules of a problem: for each nonterminal its productions.
 
-ghost use Rattle.std.specs.Prelude.{◌≡◌, ◌-◌, ◌≤◌, ◌<◌, ◌^◌, IfOk, bytes_eq, codes, length, sum_by};
+ghost use Rattle.std.specs.Prelude.{◌≡◌, ◌-◌, bytes_eq, codes, length, sum_by};
 ghost use Rattle.std.specs.List.{list_any};
-ghost use Rattle.am_tree.specs.declared.grammar.TheConstants.{MOST_PRODUCTIONS as most_productions};
 ghost use Rattle.am_bv.specs.Operators.{arity};
 ghost use Rattle.am_text.specs.Tokens.{words};
-ghost use Rattle.am_syntax.specs.Pieces.{key_or, keyed, number, optional, times};
+ghost use Rattle.am_tree.specs.declared.grammar.TheConstants.{MOST_PRODUCTIONS as most_productions};
+ghost use Rattle.am_syntax.specs.Pieces.{times};
+ghost use Rattle.am_syntax.specs.Readers.{Gives, Makes};
 ghost use Rattle.am_syntax.specs.Spelling.{IsScope};
-ghost use Rattle.am_syntax.specs.Names.{is_op_name};
-ghost use Rattle.am_syntax.specs.Readers.{Gives, Makes, Says};
-ghost use Rattle.am_problem.specs.Kinds.{fields_of};
-ghost use Rattle.am_problem.specs.Grammar.{budgets, domain, header, leaf_production, name_before, no_name_more, node_production, opening, opens_names, problem, production, productions, rule, rule_name, rule_name_judge, rules, small_term, starts};
-ghost use Rattle.am_problem.specs.StoredLines.{seen_budgets, seen_lines, seen_header, seen_names, seen_production, seen_productions, seen_rule, seen_rules, seen_scope};
+ghost use Rattle.am_problem.specs.Grammar.{leaf_production, name_before, node_production, opening};
+ghost use Rattle.am_problem.specs.Grammar.{opens_names, production, productions, rule, rule_name, rules};
+ghost use Rattle.am_problem.specs.StoredLines.{seen_names, seen_production, seen_productions};
+ghost use Rattle.am_problem.specs.StoredLines.{seen_rule, seen_rules, seen_scope};
 
 use crate::draft::{Production, Rule, Scope};
 use crate::header::read_names;
-use am_bv::{Op, Row, Term, Width};
+use am_bv::{Op, Row, Term};
 use am_syntax::{
-    Cause, Each, Failure, Item, Judge, Letter, Listed, TermLimits, is_name, is_next, op_named,
-    read_list, read_times, take, take_closing, take_key, take_number, take_operator, take_term,
+    Cause, Failure, Item, Judge, Listed, TermLimits, is_name, is_next, op_named, read_list, take,
+    take_closing, take_key, take_operator, take_term,
 };
 use am_text::Cursor;
 use am_tree::{MOST_LEAF_NODES, MOST_PRODUCTIONS, MOST_RULES};
@@ -57,7 +57,7 @@ impl<'a> Judge<'a> for Opening {
 /// Takes the parenthesis of a production, of so many more at most.
 #[tactic(auto, unfolding(crate::specs::Grammar::opening))]
 fn take_opening(text: &mut Cursor<'_>, room: usize) -> Result<(), Cause>
-    ensures { Gives (λ _. tt) result text.new ((opening room).read text.old) }
+    ensures { Gives (λ _. tt) result text.old text.new (opening room).read }
 {
     take(text, &Opening { room })
 }
@@ -68,7 +68,7 @@ fn read_arguments<'a>(
     text: &mut Cursor<'a>,
     op: Op,
 ) -> Result<Row<&'a [u8]>, Failure>
-    ensures { Makes seen_names result text.new ((times (λ _. name_before (codes ")")) (arity op)).read text.old) }
+    ensures { Makes seen_names result text.old text.new (times (λ _. name_before (codes ")")) (arity op)).read }
 {
     read_names(alloc, text, b")", op.arity())
 }
@@ -80,7 +80,7 @@ fn read_leaf(
     scope: &Scope,
     room: usize,
 ) -> Result<Term, Failure>
-    ensures { Makes (λ t. t) result text.new ((leaf_production (seen_scope scope.now) room).read text.old) }
+    ensures { Makes (λ t. t) result text.old text.new (leaf_production (seen_scope scope.now) room).read }
 {
     let limits = TermLimits {
         letter: scope.letter,
@@ -98,7 +98,7 @@ fn read_node_production<'a>(
     text: &mut Cursor<'a>,
     room: usize,
 ) -> Result<(Op, Row<&'a [u8]>), Failure>
-    ensures { Makes (λ x. (tt, (x.0, seen_names x.1))) result text.new ((node_production room).read text.old) }
+    ensures { Makes (λ x. (tt, (x.0, seen_names x.1))) result text.old text.new (node_production room).read }
 {
     take_opening(text, room)?;
     let op = take_operator(text)?;
@@ -126,7 +126,7 @@ fn read_production<'a>(
     scope: &Scope,
     room: usize,
 ) -> Result<Production<'a>, Failure>
-    ensures { Makes seen_production result text.new ((production (seen_scope scope.now) room).read text.old) }
+    ensures { Makes seen_production result text.old text.new (production (seen_scope scope.now) room).read }
 {
     if opens_names(text) {
         let (op, names) = read_node_production(alloc, text, room)?;
@@ -197,7 +197,7 @@ fn read_productions<'a>(
     room: usize,
 ) -> Result<Row<Production<'a>>, Failure>
     requires { IsScope (seen_scope scope.now) }
-    ensures { Makes seen_productions result text.new ((productions (seen_scope scope.now) room).read text.old) }
+    ensures { Makes seen_productions result text.old text.new (productions (seen_scope scope.now) room).read }
 {
     let productions = Productions {
         scope: *scope,
@@ -251,7 +251,7 @@ impl<'t, 'r, 'a> Judge<'t> for RuleName<'r, 'a> {
 /// Takes the name of a rule behind other rules.
 #[tactic(auto, unfolding(crate::specs::Grammar::rule_name))]
 fn take_rule_name<'a>(text: &mut Cursor<'a>, seen: &[Rule<'_>]) -> Result<&'a [u8], Cause>
-    ensures { Gives (λ v. v.now) result text.new ((rule_name (seen_rules seen.now)).read text.old) }
+    ensures { Gives (λ v. v.now) result text.old text.new (rule_name (seen_rules seen.now)).read }
 {
     take(text, &RuleName { seen })
 }
@@ -276,7 +276,7 @@ fn read_rule<'a>(
     seen: &[Rule<'a>],
 ) -> Result<Rule<'a>, Failure>
     requires { IsScope (seen_scope scope.now) }
-    ensures { Makes seen_rule result text.new ((rule (seen_scope scope.now) (seen_rules seen.now)).read text.old) }
+    ensures { Makes seen_rule result text.old text.new (rule (seen_scope scope.now) (seen_rules seen.now)).read }
 {
     take_key(text, b"rule")?;
     let name = take_rule_name(text, seen)?;
@@ -335,7 +335,7 @@ pub(crate) fn read_rules<'a>(
     scope: &Scope,
 ) -> Result<Row<Rule<'a>>, Failure>
     requires { IsScope (seen_scope scope.now) }
-    ensures { Makes seen_rules result text.new ((rules (seen_scope scope.now)).read text.old) }
+    ensures { Makes seen_rules result text.old text.new (rules (seen_scope scope.now)).read }
 {
     read_list(alloc, text, &Rules { scope: *scope })
 }

@@ -8,7 +8,8 @@ ghost use Rattle.am_problem.specs.Grammar.{names_of, problem};
 ghost use Rattle.am_problem.specs.Problem.{Problem as Data};
 ghost use Rattle.am_problem.specs.StoredDraft.{seen_draft};
 ghost use Rattle.am_problem.specs.StoredLines.{seen_lines, seen_rules};
-ghost use Rattle.am_problem.specs.Texts.{IfRefused, IsSettledProblem, Reads, draft, draft_of, problem_of, undefined_in};
+ghost use Rattle.am_problem.specs.Texts.{IfRefused, IsSettledProblem, Reads, draft, draft_of};
+ghost use Rattle.am_problem.specs.Texts.{problem_of, undefined_in};
 
 use crate::draft::{Draft, Lines, Rule, Scope};
 use crate::header::{read_budgets, read_domain, read_header, read_starts};
@@ -22,7 +23,7 @@ use std::alloc::Global;
 /// A problem, up to its `end`.
 #[tactic(auto, unfolding(crate::specs::Grammar::problem))]
 fn read_lines<'a>(alloc: Global, text: &mut Cursor<'a>) -> Result<Lines<'a>, Failure>
-    ensures { Makes seen_lines result text.new (problem.read text.old) }
+    ensures { Makes seen_lines result text.old text.new problem.read }
 {
     let header = read_header(alloc, text)?;
     let kind = read_domain(text)?;
@@ -62,7 +63,7 @@ fn first_undefined(text: &mut Cursor<'_>, rules: &[Rule<'_>]) -> Option<usize>
 
 /// A problem up to its `end`, and the first name that no rule has.
 fn read_draft<'a>(alloc: Global, text: &mut Cursor<'a>) -> Result<Draft<'a>, Failure>
-    ensures { Makes seen_draft result text.new (draft text.old) }
+    ensures { Makes seen_draft result text.old text.new draft }
 {
     let mut ahead = text.fork();
     let lines = read_lines(alloc, text)?;
@@ -74,9 +75,10 @@ fn read_draft<'a>(alloc: Global, text: &mut Cursor<'a>) -> Result<Draft<'a>, Fai
 ///
 /// # Errors
 ///
-/// `Refused`: the first token that no problem has here. The cursor stands at it.
+/// `Refused`: the first token that no problem has here. The cursor stands at it. `NoMemory`: the
+/// cursor stands at some token that the call had reached.
 pub fn problem_at<'a>(alloc: Global, c: &mut Cursor<'a>) -> Result<Draft<'a>, ReadError>
-    ensures { MakesAt seen_draft result c.new (draft c.old) }
+    ensures { MakesAt seen_draft result c.old c.new draft }
 {
     let read = read_draft(alloc, c);
     placed(read, &*c)

@@ -1,19 +1,21 @@
--- The words of canonical texts, and the text of each kind of term.
-use Rattle.std.proofs.Common.{Some, None, Ok, ◌≡◌, ℕ, ◌+◌, ◌<◌, Bool, true, false, cond, ◌||◌, not, List, [], ◌∷◌, ◌++◌, length, decimal, ◌^◌, Some, None, flat_map, codes, bytes_eq, ap, subst, ◌∙◌, sym, refl, arith, inl, inr, append_assoc, lit<}
+-- The words of canonical texts.
+use Rattle.std.proofs.Common.{Some, None, Ok, ◌≡◌, ℕ, ◌+◌, ◌<◌, Bool, true, false, cond, ◌||◌, not, List, [], ◌∷◌, ◌++◌}
+use Rattle.std.proofs.Common.{decimal, ◌^◌, flat_map, codes, bytes_eq, ap, subst, ◌∙◌, sym, refl, arith, inl, inr, lit<}
 use Rattle.std.specs.Prelude.{◌⊎◌, ◌==◌}
 use Rattle.std.specs.List.{AllByRecursion, list_all, position_from, prefix_len, suffix_len}
-use Rattle.std.proofs.lemmas.Bool.{and_from, and_parts, cases_Bool, le-leb, leb-true, ltb-true, ne_eqb, or_cases, or_right}
+use Rattle.std.proofs.lemmas.Bool.{and_from, and_parts, cases_Bool, le-leb, leb-true, ltb-true, ne_eqb, or_cases}
+use Rattle.std.proofs.lemmas.Bool.{or_right}
 use Rattle.std.proofs.lemmas.Iterator.Adapters.{position_from-zero}
 use Rattle.std.proofs.lemmas.List.{append-nil}
 use Rattle.am_text.specs.Tokens.{IsParenthesis, IsWord, bad_byte, is_allowed, is_word_byte, words_of}
-use Rattle.am_text.proofs.Laws.{IsSeam, parenthesis_is, suffix_none, words_of-append, words_of-parenthesis, words_of-space, words_of-word}
-use Rattle.am_bv.specs.Operators.{arity}
+use Rattle.am_text.proofs.Laws.{IsSeam, parenthesis_is, suffix_none, words_of-append, words_of-parenthesis}
+use Rattle.am_text.proofs.Laws.{words_of-space, words_of-word}
 use Rattle.am_bv.specs.Terms.{fits}
 use Rattle.am_bv.specs.declared.op.Op.{Op}
-use Rattle.am_bv.specs.declared.op.Op.TheVariants.{Not, Neg, And, Or, Xor, Add, Sub, Mul, Udiv, Urem, Shl, Lshr, Ashr, Eq, Ult, Ule, Slt, Sle, Umin, Umax, Smin, Smax, Ite}
+use Rattle.am_bv.specs.declared.op.Op.TheVariants.{Not, Neg, And, Or, Xor, Add, Sub, Mul, Udiv, Urem, Shl, Lshr, Ashr}
+use Rattle.am_bv.specs.declared.op.Op.TheVariants.{Eq, Ult, Ule, Slt, Sle, Umin, Umax, Smin, Smax, Ite}
 use Rattle.am_bv.specs.declared.term.Term.{Term}
-use Rattle.am_bv.specs.declared.term.Term.TheVariants.{Const, Field, Node}
-use Rattle.am_bv.proofs.Laws.{by_induction, fits-Const, fits-Field, fits-Node}
+use Rattle.am_bv.proofs.Laws.{by_induction, fits-Field}
 use Rattle.am_syntax.specs.Canonical.{AreTokens, IsToken, gap, line, lines, spaced, term_text}
 use Rattle.am_syntax.specs.Names.{op_name}
 use Rattle.am_syntax.specs.Readers.{Word, Words}
@@ -27,116 +29,9 @@ use Rattle.am_syntax.specs.Texts.{text_value}
 use Rattle.am_syntax.proofs.TextLaws.{text_read}
 use Rattle.am_syntax.proofs.PieceLaws.{same_bytes}
 use Rattle.am_syntax.proofs.NumeralLaws.{decimal-is_digits}
-use Rattle.am_syntax.proofs.TermLaws.{digits_apart, letter_closes, letter_opens, narrow, term_law, words-Const, words-Field, words-Node}
-
--- ---- the text of each kind of term
-
--- what follows a word that opens nothing
-abbrev after : Words → List ℕ
-after [] = []
-after (w ∷ ws) = (cond (bytes_eq w (codes ")")) [] (32 ∷ [])) ++ spaced (w ∷ ws)
-
--- a word that opens nothing
-spaced-word : (v : Word) (ws : Words) → bytes_eq v (codes "(") ≡ false → spaced (v ∷ ws) ≡ v ++ after ws
-spaced-word v [] h = sym (append-nil v)
-spaced-word v (w ∷ ws) h = ap (λ b. v ++ (cond (b || bytes_eq w (codes ")")) [] (32 ∷ []) ++ spaced (w ∷ ws))) h
-
--- words that stand between spaces: other words follow behind a space, and so do they
-record StandApart (us : Words) : Type 0 where
-  before : (ws : Words) → spaced (us ++ ws) ≡ spaced us ++ after ws
-  behind : (ws : Words) → after (us ++ ws) ≡ 32 ∷ spaced (us ++ ws)
-
-word_apart : (v : Word) → bytes_eq v (codes "(") ≡ false → bytes_eq v (codes ")") ≡ false → StandApart (v ∷ [])
-word_apart v opens closes = record {
-  before = λ ws. spaced-word v ws opens;
-  behind = λ ws. ap (λ b. (cond b [] (32 ∷ [])) ++ spaced (v ∷ ws)) closes;
-}
-
-regrouped : (a b c : List ℕ) → (a ++ (b ++ codes ")")) ++ c ≡ a ++ (b ++ (codes ")" ++ c))
-regrouped a b c = append_assoc a (b ++ codes ")") c ∙ ap (λ (bs : List ℕ). a ++ bs) (append_assoc b (codes ")") c)
-
-module _ (letter : ℕ) where
-  abbrev args_text : List Term → List ℕ
-  args_text ts = flat_map (λ t. 32 ∷ term_text letter t) ts
-
-  abbrev tail_words : List Term → Words
-  tail_words ts = flat_map (term_words letter) ts ++ codes ")" ∷ []
-
-  abbrev Apart : Term → Type 0
-  Apart t = StandApart (term_words letter t)
-
-  after_args : (ts : List Term) → AllByRecursion Apart ts → (ws : Words) → after (tail_words ts ++ ws) ≡ args_text ts ++ (codes ")" ++ after ws)
-  after_args [] h ws = spaced-word (codes ")") ws refl
-  after_args (t ∷ ts) h ws =
-      let rest = tail_words ts ++ ws in
-      let joined : tail_words (t ∷ ts) ++ ws ≡ term_words letter t ++ rest =
-      ap (λ (us : Words). us ++ ws) (append_assoc (term_words letter t) (flat_map (term_words letter) ts) (codes ")" ∷ [])) ∙ append_assoc (term_words letter t) (tail_words ts) ws in
-      ap after joined
-      ∙ h.0.behind rest
-      ∙ ap (λ (bs : List ℕ). 32 ∷ bs) (h.0.before rest ∙ ap (λ (bs : List ℕ). term_text letter t ++ bs) (after_args ts h.1 ws) ∙ sym (append_assoc (term_text letter t) (args_text ts) (codes ")" ++ after ws)))
-
-  -- an operator and what stands behind it
-  node_then : (op : Op) (ts : List Term) → AllByRecursion Apart ts → bytes_eq (op_name op) (codes "(") ≡ false → (ws : Words) →
-      spaced (codes "(" ∷ op_name op ∷ (tail_words ts ++ ws)) ≡ codes "(" ++ (op_name op ++ (args_text ts ++ (codes ")" ++ after ws)))
-  node_then op ts h name ws =
-      ap (λ (bs : List ℕ). codes "(" ++ bs) (spaced-word (op_name op) (tail_words ts ++ ws) name ∙ ap (λ (bs : List ℕ). op_name op ++ bs) (after_args ts h ws))
-
-  -- the text of an operator at terms
-  node_text : (op : Op) (ts : List Term) → AllByRecursion Apart ts → bytes_eq (op_name op) (codes "(") ≡ false →
-      spaced (codes "(" ∷ op_name op ∷ tail_words ts) ≡ codes "(" ++ (op_name op ++ (args_text ts ++ codes ")"))
-  node_text op ts h name = ap (λ (us : Words). spaced (codes "(" ∷ op_name op ∷ us)) (sym (append-nil (tail_words ts))) ∙ node_then op ts h name []
-
-  node_apart : (op : Op) (ts : List Term) → AllByRecursion Apart ts → bytes_eq (op_name op) (codes "(") ≡ false → StandApart (codes "(" ∷ op_name op ∷ tail_words ts)
-  node_apart op ts h name = record {
-    before = λ ws.
-        node_then op ts h name ws
-        ∙ ap (λ (bs : List ℕ). codes "(" ++ bs) (sym (regrouped (op_name op) (args_text ts) (after ws)))
-        ∙ ap (λ (bs : List ℕ). bs ++ after ws) (sym (node_text op ts h name));
-    behind = λ ws. refl;
-  }
-
-  name_opens : (op : Op) → bytes_eq (op_name op) (codes "(") ≡ false
-  name_opens op = elim op as (λ o. bytes_eq (op_name o) (codes "(") ≡ false) [ Not ↦ refl | Neg ↦ refl | And ↦ refl | Or ↦ refl | Xor ↦ refl | Add ↦ refl | Sub ↦ refl | Mul ↦ refl | Udiv ↦ refl | Urem ↦ refl | Shl ↦ refl | Lshr ↦ refl | Ashr ↦ refl | Eq ↦ refl | Ult ↦ refl | Ule ↦ refl | Slt ↦ refl | Sle ↦ refl | Umin ↦ refl | Umax ↦ refl | Smin ↦ refl | Smax ↦ refl | Ite ↦ refl ]
-
--- each of a list, where a test of all of it says what each needs
-each_so : {A : Type 0} (P : A → Type 0) (test : A → Bool) (xs : List A) → AllByRecursion (λ x. test x ≡ true → P x) xs → list_all test xs ≡ true → AllByRecursion P xs
-each_so P test [] h all = tt
-each_so P test (x ∷ xs) h all = let parts = and_parts _ _ all in (h.0 parts.0, each_so P test xs h.1 parts.1)
-
-module _ (l : Letter) (scope : Scope) (is : IsScope scope) where
-  abbrev code : ℕ
-  code = letter_code l
-
-  abbrev Fits : Term → Type 0
-  Fits t = fits scope.width scope.variables t ≡ true
-
-  const_digits : (c : ℕ) → Fits (Const c) → is_digits (decimal c) ≡ true
-  const_digits c fit = decimal-is_digits c (narrow scope.width c is.width (ltb-true _ _ (sym (fits-Const scope.width scope.variables c) ∙ fit)))
-
-  children_fit : (op : Op) (ts : List Term) → Fits (Node op ts) → list_all (fits scope.width scope.variables) ts ≡ true
-  children_fit op ts fit = (and_parts (length ts == arity op) (list_all (fits scope.width scope.variables) ts) (sym (fits-Node scope.width scope.variables op ts) ∙ fit)).1
-
-  apart : (t : Term) → Fits t → Apart code t
-  apart t = by_induction (λ t. Fits t → Apart code t) (record {
-    const = λ c fit.
-        let digits = const_digits c fit in
-        subst StandApart (sym (words-Const code c)) (word_apart (decimal c) (digits_apart (decimal c) (codes "(") digits refl) (digits_apart (decimal c) (codes ")") digits refl));
-    field = λ i fit. subst StandApart (sym (words-Field code i)) (word_apart (code ∷ decimal i) (letter_opens l (decimal i)) (letter_closes l (decimal i)));
-    node = λ op ts h fit. subst StandApart (sym (words-Node code op ts)) (node_apart code op ts (each_so (Apart code) (fits scope.width scope.variables) ts h (children_fit op ts fit)) (name_opens code op));
-  }) t
-
-  all_apart : (ts : List Term) → list_all (fits scope.width scope.variables) ts ≡ true → AllByRecursion (Apart code) ts
-  all_apart [] h = tt
-  all_apart (t ∷ ts) h = let parts = and_parts _ _ h in (apart t parts.0, all_apart ts parts.1)
-
-  pub text-Node : (op : Op) (ts : List Term) → Fits (Node op ts) → term_text code (Node op ts) ≡ codes "(" ++ (op_name op ++ (flat_map (λ t. 32 ∷ term_text code t) ts ++ codes ")"))
-  text-Node op ts fit = ap spaced (words-Node code op ts) ∙ node_text code op ts (all_apart ts (children_fit op ts fit)) (name_opens code op)
-
-pub text-Const : (letter c : ℕ) → term_text letter (Const c) ≡ decimal c
-text-Const letter c = ap spaced (words-Const letter c)
-
-pub text-Field : (letter i : ℕ) → term_text letter (Field i) ≡ letter ∷ decimal i
-text-Field letter i = ap spaced (words-Field letter i)
+use Rattle.am_syntax.proofs.TermWords.{words-Const, words-Field, words-Node}
+use Rattle.am_syntax.proofs.TermLaws.{term_law}
+use Rattle.am_syntax.proofs.SpacedLaws.{children_fit, const_digits, each_so}
 
 -- ---- the words of a canonical text
 
@@ -156,13 +51,16 @@ closing_begins [] = refl
 closing_begins (w ∷ ws) = refl
 
 -- no word goes over what stands between two tokens
-tight_seam : (v w : Word) (ws : Words) → (bytes_eq v (codes "(") || bytes_eq w (codes ")")) ≡ true → IsSeam v (spaced (w ∷ ws))
+tight_seam : (v w : Word) (ws : Words) → (bytes_eq v (codes "(") || bytes_eq w (codes ")")) ≡ true →
+    IsSeam v (spaced (w ∷ ws))
 tight_seam v w ws h =
     elim (or_cases _ _ h) [
       | inl opens ↦ inl (ap (suffix_len is_word_byte) (same_bytes v (codes "(") opens))
-      | inr closes ↦ inr (ap (λ (x : Word). prefix_len is_word_byte (spaced (x ∷ ws))) (same_bytes w (codes ")") closes) ∙ closing_begins ws)
+      | inr closes ↦ inr (ap (λ (x : Word). prefix_len is_word_byte (spaced (x ∷ ws))) (same_bytes w (codes ")") closes)
+          ∙ closing_begins ws)
     ]
 
+-- words with spaces between them are the words of their text
 pub spaced_words : (ws : Words) → AreTokens ws → words_of (spaced ws) ≡ ws
 spaced_words [] are = refl
 spaced_words (v ∷ []) are = token_alone v are.0.shape
@@ -178,23 +76,28 @@ spaced_words (v ∷ w ∷ ws) are =
       | inr loose ↦
           ap (λ b. words_of (v ++ (cond b [] (32 ∷ []) ++ rest))) loose
           ∙ words_of-append v (32 ∷ rest) (inr refl)
-          ∙ ap (λ (us : Words). us ++ words_of (32 ∷ rest)) (token_alone v are.0.shape) ∙ ap (λ (us : Words). v ∷ us) (words_of-space 32 rest refl ∙ others)
+          ∙ ap (λ (us : Words). us ++ words_of (32 ∷ rest)) (token_alone v are.0.shape)
+          ∙ ap (λ (us : Words). v ∷ us) (words_of-space 32 rest refl ∙ others)
     ]
 
+-- and of their line
 pub line_words : (ws : Words) → AreTokens ws → words_of (line ws) ≡ ws
 line_words ws are =
-    words_of-append (spaced ws) (10 ∷ []) (inr refl) ∙ ap (λ (us : Words). us ++ words_of (10 ∷ [])) (spaced_words ws are) ∙ append-nil ws
+    words_of-append (spaced ws) (10 ∷ []) (inr refl)
+    ∙ ap (λ (us : Words). us ++ words_of (10 ∷ [])) (spaced_words ws are) ∙ append-nil ws
 
 -- the words of lines are those of each line
 pub lines_words : (rows : List Words) → AllByRecursion AreTokens rows → words_of (lines rows) ≡ flat_map (λ ws. ws) rows
 lines_words [] are = refl
 lines_words (ws ∷ rows) are =
     words_of-append (line ws) (lines rows) (inl (suffix_none (spaced ws) 10 refl))
-    ∙ ap (λ (us : Words). us ++ words_of (lines rows)) (line_words ws are.0) ∙ ap (λ (us : Words). ws ++ us) (lines_words rows are.1)
+    ∙ ap (λ (us : Words). us ++ words_of (lines rows)) (line_words ws are.0)
+    ∙ ap (λ (us : Words). ws ++ us) (lines_words rows are.1)
 
 -- ---- canonical texts have allowed bytes alone
 
-all-append : (test : ℕ → Bool) (xs ys : List ℕ) → list_all test xs ≡ true → list_all test ys ≡ true → list_all test (xs ++ ys) ≡ true
+all-append : (test : ℕ → Bool) (xs ys : List ℕ) → list_all test xs ≡ true → list_all test ys ≡ true →
+    list_all test (xs ++ ys) ≡ true
 all-append test [] ys h k = k
 all-append test (x ∷ xs) ys h k = let parts = and_parts _ _ h in and_from _ _ parts.0 (all-append test xs ys parts.1 k)
 
@@ -207,22 +110,27 @@ spaced_allowed [] are = refl
 spaced_allowed (v ∷ []) are = are.0.allowed
 spaced_allowed (v ∷ w ∷ ws) are =
     all-append is_allowed v (gap v w ++ spaced (w ∷ ws)) are.0.allowed
-    (all-append is_allowed (gap v w) (spaced (w ∷ ws)) (gap_allowed (bytes_eq v (codes "(") || bytes_eq w (codes ")"))) (spaced_allowed (w ∷ ws) are.1))
+    (all-append is_allowed (gap v w) (spaced (w ∷ ws)) (gap_allowed (bytes_eq v (codes "(") || bytes_eq w (codes ")")))
+    (spaced_allowed (w ∷ ws) are.1))
 
 lines_allowed : (rows : List Words) → AllByRecursion AreTokens rows → list_all is_allowed (lines rows) ≡ true
 lines_allowed [] are = refl
 lines_allowed (ws ∷ rows) are =
-    all-append is_allowed (line ws) (lines rows) (all-append is_allowed (spaced ws) (10 ∷ []) (spaced_allowed ws are.0) refl) (lines_allowed rows are.1)
+    all-append is_allowed (line ws) (lines rows) (all-append is_allowed (spaced ws) (10 ∷ []) (spaced_allowed ws are.0)
+    refl) (lines_allowed rows are.1)
 
-none_from : (i : ℕ) (text : List ℕ) → list_all is_allowed text ≡ true → position_from (λ b. not (is_allowed b)) i text ≡ None
+none_from : (i : ℕ) (text : List ℕ) → list_all is_allowed text ≡ true →
+    position_from (λ b. not (is_allowed b)) i text ≡ None
 none_from i [] h = refl
 none_from i (b ∷ bs) h =
     let parts = and_parts _ _ h in
-    ap (λ (t : Bool). cond (not t) (Some i) (position_from (λ b. not (is_allowed b)) (i + 1) bs)) parts.0 ∙ none_from (i + 1) bs parts.1
+    ap (λ (t : Bool). cond (not t) (Some i) (position_from (λ b. not (is_allowed b)) (i + 1) bs)) parts.0
+    ∙ none_from (i + 1) bs parts.1
 
 none_bad : (text : List ℕ) → list_all is_allowed text ≡ true → bad_byte text ≡ None
 none_bad text h = position_from-zero (λ b. not (is_allowed b)) text ∙ none_from 0 text h
 
+-- tokens with spaces between them have no bad byte, on one line or on more
 pub spaced_is_text : (ws : Words) → AreTokens ws → bad_byte (spaced ws) ≡ None
 spaced_is_text ws are = none_bad (spaced ws) (spaced_allowed ws are)
 
@@ -250,7 +158,8 @@ digit_allowed b h =
 
 digits_allowed : (bs : List ℕ) → list_all is_digit bs ≡ true → list_all is_allowed bs ≡ true
 digits_allowed [] h = refl
-digits_allowed (b ∷ bs) h = let parts = and_parts _ _ h in and_from _ _ (digit_allowed b parts.0) (digits_allowed bs parts.1)
+digits_allowed (b ∷ bs) h =
+    let parts = and_parts _ _ h in and_from _ _ (digit_allowed b parts.0) (digits_allowed bs parts.1)
 
 digits_word : (bs : List ℕ) → list_all is_digit bs ≡ true → list_all is_word_byte bs ≡ true
 digits_word [] h = refl
@@ -266,8 +175,34 @@ digits_is_token v h = record { shape = inr (digits_is_word v h); allowed = digit
 abbrev named_token : (v : Word) → IsWord v → list_all is_allowed v ≡ true → IsToken v
 named_token v word allowed = record { shape = inr word; allowed = allowed }
 
+-- an operator's name is a token
 pub op_name_is_token : (op : Op) → IsToken (op_name op)
-op_name_is_token op = elim op as (λ o. IsToken (op_name o)) [ Not ↦ named_token _ (lit< tt, refl) refl | Neg ↦ named_token _ (lit< tt, refl) refl | And ↦ named_token _ (lit< tt, refl) refl | Or ↦ named_token _ (lit< tt, refl) refl | Xor ↦ named_token _ (lit< tt, refl) refl | Add ↦ named_token _ (lit< tt, refl) refl | Sub ↦ named_token _ (lit< tt, refl) refl | Mul ↦ named_token _ (lit< tt, refl) refl | Udiv ↦ named_token _ (lit< tt, refl) refl | Urem ↦ named_token _ (lit< tt, refl) refl | Shl ↦ named_token _ (lit< tt, refl) refl | Lshr ↦ named_token _ (lit< tt, refl) refl | Ashr ↦ named_token _ (lit< tt, refl) refl | Eq ↦ named_token _ (lit< tt, refl) refl | Ult ↦ named_token _ (lit< tt, refl) refl | Ule ↦ named_token _ (lit< tt, refl) refl | Slt ↦ named_token _ (lit< tt, refl) refl | Sle ↦ named_token _ (lit< tt, refl) refl | Umin ↦ named_token _ (lit< tt, refl) refl | Umax ↦ named_token _ (lit< tt, refl) refl | Smin ↦ named_token _ (lit< tt, refl) refl | Smax ↦ named_token _ (lit< tt, refl) refl | Ite ↦ named_token _ (lit< tt, refl) refl ]
+op_name_is_token op =
+    elim op as (λ o. IsToken (op_name o)) [
+      | Not ↦ named_token _ (lit< tt, refl) refl
+      | Neg ↦ named_token _ (lit< tt, refl) refl
+      | And ↦ named_token _ (lit< tt, refl) refl
+      | Or ↦ named_token _ (lit< tt, refl) refl
+      | Xor ↦ named_token _ (lit< tt, refl) refl
+      | Add ↦ named_token _ (lit< tt, refl) refl
+      | Sub ↦ named_token _ (lit< tt, refl) refl
+      | Mul ↦ named_token _ (lit< tt, refl) refl
+      | Udiv ↦ named_token _ (lit< tt, refl) refl
+      | Urem ↦ named_token _ (lit< tt, refl) refl
+      | Shl ↦ named_token _ (lit< tt, refl) refl
+      | Lshr ↦ named_token _ (lit< tt, refl) refl
+      | Ashr ↦ named_token _ (lit< tt, refl) refl
+      | Eq ↦ named_token _ (lit< tt, refl) refl
+      | Ult ↦ named_token _ (lit< tt, refl) refl
+      | Ule ↦ named_token _ (lit< tt, refl) refl
+      | Slt ↦ named_token _ (lit< tt, refl) refl
+      | Sle ↦ named_token _ (lit< tt, refl) refl
+      | Umin ↦ named_token _ (lit< tt, refl) refl
+      | Umax ↦ named_token _ (lit< tt, refl) refl
+      | Smin ↦ named_token _ (lit< tt, refl) refl
+      | Smax ↦ named_token _ (lit< tt, refl) refl
+      | Ite ↦ named_token _ (lit< tt, refl) refl
+    ]
 
 letter_token : (l : Letter) (bs : List ℕ) → IsToken bs → IsWord bs → IsToken (letter_code l ∷ bs)
 letter_token X bs is word = record { shape = inr (omega arith, word.1); allowed = is.allowed }
@@ -279,11 +214,14 @@ opening_token = record { shape = inl (refl, refl); allowed = refl }
 closing_token : IsToken (codes ")")
 closing_token = record { shape = inl (refl, refl); allowed = refl }
 
+-- tokens before tokens
 pub tokens-append : (us ws : Words) → AreTokens us → AreTokens ws → AreTokens (us ++ ws)
 tokens-append [] ws one two = two
 tokens-append (v ∷ us) ws one two = (one.0, tokens-append us ws one.1 two)
 
-all_tokens : {A : Type 0} (f : A → Words) (xs : List A) → AllByRecursion (λ x. AreTokens (f x)) xs → AreTokens (flat_map f xs)
+-- the words of each of a list are tokens
+pub all_tokens : {A : Type 0} (f : A → Words) (xs : List A) → AllByRecursion (λ x. AreTokens (f x)) xs →
+    AreTokens (flat_map f xs)
 all_tokens f [] h = tt
 all_tokens f (x ∷ xs) h = tokens-append (f x) (flat_map f xs) h.0 (all_tokens f xs h.1)
 
@@ -291,22 +229,43 @@ module _ (l : Letter) (scope : Scope) (is : IsScope scope) where
   abbrev Spelled : Term → Type 0
   Spelled t = AreTokens (term_words (letter_code l) t)
 
+  -- the words of a term are tokens
   pub term_is_tokens : (t : Term) → fits scope.width scope.variables t ≡ true → AreTokens (term_words (letter_code l) t)
   term_is_tokens t = by_induction (λ t. fits scope.width scope.variables t ≡ true → Spelled t) (record {
-    const = λ c fit. subst AreTokens (sym (words-Const (letter_code l) c)) (digits_is_token (decimal c) (const_digits l scope is c fit), tt);
+    const =
+        λ c fit. subst AreTokens (sym (words-Const (letter_code l) c))
+        (digits_is_token (decimal c) (const_digits l scope is c fit), tt);
     field = λ i fit.
-        let small : i < 2 ^ 64 = omega (arith, is.variables, ltb-true _ _ (sym (fits-Field scope.width scope.variables i) ∙ fit)) in
+        let small : i < 2 ^ 64 =
+        omega (arith, is.variables, ltb-true _ _ (sym (fits-Field scope.width scope.variables i) ∙ fit)) in
         let digits = decimal-is_digits i small in
-        subst AreTokens (sym (words-Field (letter_code l) i)) (letter_token l (decimal i) (digits_is_token (decimal i) digits) (digits_is_word (decimal i) digits), tt);
+        subst AreTokens (sym (words-Field (letter_code l) i))
+        (letter_token l (decimal i) (digits_is_token (decimal i) digits) (digits_is_word (decimal i) digits), tt);
     node = λ op ts h fit.
         let each = each_so Spelled (fits scope.width scope.variables) ts h (children_fit l scope is op ts fit) in
-        subst AreTokens (sym (words-Node (letter_code l) op ts))
-        (opening_token, (op_name_is_token op, tokens-append (flat_map (term_words (letter_code l)) ts) (codes ")" ∷ []) (all_tokens (term_words (letter_code l)) ts each) (closing_token, tt)));
+        subst AreTokens (sym (words-Node (letter_code l) op ts)) (
+          opening_token,
+          (
+            op_name_is_token op,
+            tokens-append (flat_map (term_words (letter_code l)) ts) (codes ")" ∷ [])
+                (all_tokens (term_words (letter_code l)) ts each) (closing_token, tt),
+          ),
+        );
   }) t
 
-pub printed_reads_back : (w : ℕ) (limits : TermLimits) → IsScope (scope_of w limits) → (t : Term) → (term w limits).Good t →
-    (words_of (term_text (letter_code limits.letter) t) ≡ term_words (letter_code limits.letter) t) × (text_value (term w limits) (term_text (letter_code limits.letter) t) ≡ Ok t)
+-- a printed term has the term's words, and reads back
+pub printed_reads_back : (w : ℕ) (limits : TermLimits) → IsScope (scope_of w limits) → (t : Term) →
+    (term w limits).Good t →
+    (words_of (term_text (letter_code limits.letter) t) ≡ term_words (letter_code limits.letter) t) ×
+    (text_value (term w limits) (term_text (letter_code limits.letter) t) ≡ Ok t)
 printed_reads_back w limits is t good =
     let are = term_is_tokens limits.letter (scope_of w limits) is t good.fit in
-    let spelled = spaced_words (term_words (letter_code limits.letter) t) are in
-    (spelled, text_read (term_law w limits is) tt (term_text (letter_code limits.letter) t) t (record { allowed = spaced_is_text (term_words (letter_code limits.letter) t) are; spelled = spelled; good = good }))
+    let spelled = spaced_words (term_words (letter_code limits.letter) t) are in (
+      spelled,
+      text_read (term_law w limits is) tt (term_text (letter_code limits.letter) t) t
+          (record {
+            allowed = spaced_is_text (term_words (letter_code limits.letter) t) are;
+            spelled = spelled;
+            good = good;
+          }),
+    )

@@ -1,10 +1,41 @@
 -- What proofs of other crates may cite of pieces, tokens, terms, texts and the loops over items.
+
+-- what was taken from the front: nothing, one behind another, its words, its length, in two halves
 pub use Rattle.am_syntax.proofs.Takes.{Takes-none, Takes-then, Takes-words, Takes-length, Takes-halves, Takes-nothing}
-pub use Rattle.am_syntax.proofs.PieceLaws.{bytes_eq-same, same_bytes, ok_is, bind_ok, token_law, key_law, then_law, keyed_law, closed_law, seen_law, optional_law, choice_law}
+-- tokens that were reached: none taken, one after another, behind a value; a judge and a term go forward alone
+pub use Rattle.am_syntax.proofs.Advancing.{reached_here, reached_then, reached_ok, judged_advances, term_advances}
+-- a failure in a part is one of the whole: in a part that was reached, in the first, in one behind a value
+pub use Rattle.am_syntax.proofs.Loops.{fails_on, fails_first, fails_behind, makes_err}
+-- equal words; a step that wasn't refused
+pub use Rattle.am_syntax.proofs.PieceLaws.{bytes_eq-same, same_bytes, ok_is, bind_ok}
+-- pieces are exact: one token, a key word, one behind another, with key words, another view, what comes next decides
+pub use Rattle.am_syntax.proofs.PieceLaws.{token_law, key_law, then_law, keyed_law, closed_law, seen_law}
+pub use Rattle.am_syntax.proofs.PieceLaws.{optional_law, choice_law}
+-- lists of pieces are exact: so many, or as many as come, where each takes a token at least
 pub use Rattle.am_syntax.proofs.ListLaws.{times_law, moves_on, repeat_law}
-pub use Rattle.am_syntax.proofs.TokenLaws.{chosen, cond_ok, number_law, name_law, operator_law, op_named-name, found_passes, named_some}
-pub use Rattle.am_syntax.proofs.NumeralLaws.{decimal-is_digits, decimal-is_canonical, decimal-is_numeral, decimal-number_of, no_digits, digits_decimal_of}
-pub use Rattle.am_syntax.proofs.TermLaws.{term_law, term_within_law, digits_apart, narrow, words-Const, words-Field, words-Node}
+-- numerals, names and operators are exact; which way a test went; what was found in a table
+pub use Rattle.am_syntax.proofs.TokenLaws.{number_law, name_law, operator_law}
+pub use Rattle.am_syntax.proofs.TokenLaws.{chosen, cond_ok, op_named-name, found_passes, named_some}
+-- the decimal text of a number is its numeral
+pub use Rattle.am_syntax.proofs.NumeralLaws.{decimal-is_digits, decimal-is_canonical, decimal-is_numeral}
+pub use Rattle.am_syntax.proofs.NumeralLaws.{decimal-number_of, no_digits, digits_decimal_of}
+-- the words of each kind of term; a row of digits differs from other words; a small word has a numeral
+pub use Rattle.am_syntax.proofs.TermWords.{words-Const, words-Field, words-Node, digits_apart, narrow}
+-- terms are exact
+pub use Rattle.am_syntax.proofs.TermLaws.{term_law, term_within_law}
+-- a text has a value exactly where its piece spells it, and else a first refusal
 pub use Rattle.am_syntax.proofs.TextLaws.{text_found, text_read, text_settled, text_closed, text_bad}
-pub use Rattle.am_syntax.proofs.CanonicalLaws.{spaced_words, line_words, lines_words, spaced_is_text, lines_is_text, digits_is_token, op_name_is_token, tokens-append, term_is_tokens, printed_reads_back, text-Const, text-Field, text-Node}
+-- what follows a word that opens nothing; words that stand apart: a word, those of a term, two rows of them
+pub use Rattle.am_syntax.proofs.SpacedLaws.{StandApart, after, spaced-word, word_apart, term_apart, spaced_apart}
+pub use Rattle.am_syntax.proofs.SpacedLaws.{both_apart}
+-- the text of each kind of term
+pub use Rattle.am_syntax.proofs.SpacedLaws.{text-Const, text-Field, text-Node}
+-- a canonical text of tokens has these words, and no bad byte
+pub use Rattle.am_syntax.proofs.CanonicalLaws.{spaced_words, line_words, lines_words, spaced_is_text, lines_is_text}
+-- digits, names of operators and the words of terms are tokens, and so are those of two rows, and of each of a list
+pub use Rattle.am_syntax.proofs.CanonicalLaws.{digits_is_token, op_name_is_token, term_is_tokens, tokens-append}
+pub use Rattle.am_syntax.proofs.CanonicalLaws.{all_tokens, printed_reads_back}
+-- numerals and names are tokens that stand apart
+pub use Rattle.am_syntax.proofs.WordTokens.{number_is_token, number_apart, name_is_token, name_apart}
+-- a text that grows toward what is to be written
 pub use Rattle.am_syntax.proofs.Growing.{toward_none, toward, toward_stopped, appends_err}

@@ -1,10 +1,13 @@
 -- The decimal text of a number is its numeral, and no other word is.
-use Rattle.std.proofs.Common.{◌≡◌, ℕ, zero, suc, ◌+◌, ◌*◌, ◌-◌, ◌^◌, ◌<◌, ◌≤◌, take, true, false, not, ◌==◌, List, [], ◌∷◌, length, get_or, decimal, fold, ap, sym, refl, arith, rules, lit<, inl, inr}
+use Rattle.std.proofs.Common.{◌≡◌, ℕ, zero, suc, ◌+◌, ◌*◌, ◌-◌, ◌^◌, ◌<◌, ◌≤◌, take, true, false, not, ◌==◌, List, []}
+use Rattle.std.proofs.Common.{◌∷◌, length, get_or, decimal, fold, ap, sym, refl, arith, rules, lit<, inl, inr}
 use Rattle.std.specs.Prelude.{Option, Some, None, IfNone}
 use Rattle.std.specs.List.{list_all}
 use Rattle.std.proofs.lemmas.Str.Parse.{IsNumeralModel, numerals_by_fold}
-use Rattle.std.proofs.lemmas.Fmt.{digits_decimal, digits_value-decimal, decimal-digits_value, decimal_nonempty, decimal_digit, first_decimal}
-use Rattle.std.proofs.lemmas.Bool.{and_from, and_parts, lt-ltb, and_left, and_right, eqb-true, eqb-false, ne_eqb, or_cases, or_right, not-true}
+use Rattle.std.proofs.lemmas.Fmt.{digits_decimal, digits_value-decimal, decimal-digits_value, decimal_nonempty}
+use Rattle.std.proofs.lemmas.Fmt.{decimal_digit, first_decimal}
+use Rattle.std.proofs.lemmas.Bool.{and_from, and_parts, lt-ltb, and_left, and_right, eqb-true, eqb-false, ne_eqb}
+use Rattle.std.proofs.lemmas.Bool.{or_cases, or_right, not-true}
 use Rattle.am_syntax.specs.Numerals.{is_canonical, is_digit, is_digits, is_numeral, number_of}
 
 abbrev read_on : ℕ → List ℕ → ℕ
@@ -36,8 +39,17 @@ canonical_from (b ∷ c ∷ bs) is =
     or_right _ _ (ap not other)
 
 decimal_canonical : (n : ℕ) → n < 2 ^ 64 → IsCanonical (decimal n)
-decimal_canonical zero h = record { long = omega (arith, ap length (decimal_digit 0 (lit< tt))); zero = λ _. ap length (decimal_digit 0 (lit< tt)) }
-decimal_canonical (suc n) h = record { long = decimal_nonempty (suc n) h; zero = λ e. absurd (omega (arith, first_decimal (suc n) (omega arith) h)) }
+decimal_canonical zero h =
+    record {
+      long = omega (arith, ap length (decimal_digit 0 (lit< tt)));
+      zero = λ _. ap length (decimal_digit 0 (lit< tt));
+    }
+decimal_canonical (suc n) h =
+    record {
+      long = decimal_nonempty (suc n) h;
+      zero = λ e.
+          absurd (omega (arith, first_decimal (suc n) (omega arith) h));
+    }
 
 pub decimal-is_numeral : (n : ℕ) → n < 2 ^ 64 → is_numeral (decimal n) ≡ true
 decimal-is_numeral n h = and_from _ _ (canonical_from (decimal n) (decimal_canonical n h)) (digits_decimal own n h)
@@ -45,7 +57,8 @@ decimal-is_numeral n h = and_from _ _ (canonical_from (decimal n) (decimal_canon
 pub decimal-number_of : (n : ℕ) → n < 2 ^ 64 → number_of (decimal n) ≡ n
 decimal-number_of n h = digits_value-decimal own n h
 
-pub decimal_of_number : (word : List ℕ) → is_numeral word ≡ true → number_of word < 2 ^ 64 → word ≡ decimal (number_of word)
+pub decimal_of_number : (word : List ℕ) → is_numeral word ≡ true → number_of word < 2 ^ 64 →
+    word ≡ decimal (number_of word)
 decimal_of_number word h small =
     let parts = and_parts _ _ h in
     let is = canonical_parts word parts.0 in
@@ -62,7 +75,8 @@ pub decimal-is_canonical : (n : ℕ) → n < 2 ^ 64 → is_canonical (decimal n)
 decimal-is_canonical n h = canonical_from (decimal n) (decimal_canonical n h)
 
 -- a row of digits without a leading zero is the decimal text of its number
-pub digits_decimal_of : (word : List ℕ) → is_digits word ≡ true → is_canonical word ≡ true → number_of word < 2 ^ 64 → word ≡ decimal (number_of word)
+pub digits_decimal_of : (word : List ℕ) → is_digits word ≡ true → is_canonical word ≡ true → number_of word < 2 ^ 64 →
+    word ≡ decimal (number_of word)
 digits_decimal_of word d c small = decimal_of_number word (and_from _ _ c (and_parts _ _ d).1) small
 
 pub no_digits : (b : ℕ) (bs : List ℕ) → is_digit b ≡ false → is_digits (b ∷ bs) ≡ false
@@ -72,13 +86,15 @@ rising : (m : ℕ) (bs : List ℕ) → m ≤ read_on m bs
 rising m [] = omega arith
 rising m (b ∷ bs) = omega (arith, rising (10 * m + (b - 48)) bs)
 
-digits_below : (n : ℕ) (word : List ℕ) (i : ℕ) → i < length word → 10 * read_on n (take i word) + (get_or word i 0 - 48) ≤ read_on n word
+digits_below : (n : ℕ) (word : List ℕ) (i : ℕ) → i < length word →
+    10 * read_on n (take i word) + (get_or word i 0 - 48) ≤ read_on n word
 digits_below n [] i h = absurd (omega arith)
 digits_below n (b ∷ bs) zero h = rising (10 * n + (b - 48)) bs
 digits_below n (b ∷ bs) (suc i) h = digits_below (10 * n + (b - 48)) bs i (omega arith)
 
 -- a number is no less than that of its first digits and the next
-pub first_digits : (word : List ℕ) (i : ℕ) → i < length word → 10 * number_of (take i word) + (get_or word i 0 - 48) ≤ number_of word
+pub first_digits : (word : List ℕ) (i : ℕ) → i < length word →
+    10 * number_of (take i word) + (get_or word i 0 - 48) ≤ number_of word
 first_digits word i h = digits_below 0 word i h
 
 pub if_none : {A P : Type 0} (o : Option A) → P → IfNone o P

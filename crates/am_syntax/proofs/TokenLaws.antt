@@ -1,17 +1,19 @@
 -- The laws of single tokens: numerals, names, operators, domains.
-use Rattle.std.proofs.Common.{◌≡◌, ℕ, ◌^◌, ◌<◌, ◌≤◌, Bool, true, false, cond, ◌&&◌, nat_le, List, [], ◌∷◌, decimal, Option, Some, None, Result, Ok, Err, bytes_eq, find, ap, subst, ◌∙◌, sym, refl, inl, inr, arith, IsTrue}
+use Rattle.std.proofs.Common.{◌≡◌, ℕ, ◌^◌, ◌<◌, ◌≤◌, Bool, true, false, cond, ◌&&◌, nat_le, List, [], ◌∷◌, decimal}
+use Rattle.std.proofs.Common.{Option, Some, None, Result, Ok, Err, bytes_eq, find, ap, subst, ◌∙◌, sym, refl, inl, inr}
+use Rattle.std.proofs.Common.{arith, IsTrue}
 use Rattle.std.specs.Prelude.{◌⊎◌}
 use Rattle.std.proofs.lemmas.Bool.{and_from, and_parts, le-leb, leb-true}
 use Rattle.am_bv.specs.declared.op.Op.{Op}
 use Rattle.am_bv.specs.declared.op.TheConstants.Op.{ALL}
-use Rattle.am_bv.specs.declared.op.Op.TheVariants.{Not, Neg, And, Or, Xor, Add, Sub, Mul, Udiv, Urem, Shl, Lshr, Ashr, Eq, Ult, Ule, Slt, Sle, Umin, Umax, Smin, Smax, Ite}
+use Rattle.am_bv.specs.declared.op.Op.TheVariants.{Not, Neg, And, Or, Xor, Add, Sub, Mul, Udiv, Urem, Shl, Lshr, Ashr}
+use Rattle.am_bv.specs.declared.op.Op.TheVariants.{Eq, Ult, Ule, Slt, Sle, Umin, Umax, Smin, Smax, Ite}
 use Rattle.am_syntax.specs.declared.refusal.Cause.{Cause}
 use Rattle.am_syntax.specs.declared.refusal.Cause.TheVariants.{Syntax, Number}
-use Rattle.am_syntax.specs.Names.{op_name}
+use Rattle.am_syntax.specs.Names.{op_name, named, op_named, operator, operator_judge}
 use Rattle.am_syntax.specs.Numerals.{is_canonical, is_digits, is_name, number_of}
 use Rattle.am_syntax.specs.Pieces.{name_judge, name_or, number, number_judge}
 use Rattle.am_syntax.specs.Readers.{Word}
-use Rattle.am_syntax.specs.Names.{named, op_named, operator, operator_judge}
 use Rattle.am_syntax.proofs.NumeralLaws.{decimal-is_canonical, decimal-is_digits, decimal-number_of, digits_decimal_of}
 use Rattle.am_syntax.specs.Exact.{IsExact, always}
 use Rattle.am_syntax.proofs.PieceLaws.{same_bytes, token_law}
@@ -21,39 +23,49 @@ pub chosen : {A : Type 0} (b : Bool) (x y z : A) → cond b x y ≡ z → ((b �
 chosen true x y z e = inl (refl, e)
 chosen false x y z e = inr (refl, e)
 
-pub cond_ok : {X : Type 0} (b : Bool) (x : X) (cause : Cause) (y : X) → cond b (Ok x) (Err cause) ≡ Ok y → (b ≡ true) × (x ≡ y)
+pub cond_ok : {X : Type 0} (b : Bool) (x : X) (cause : Cause) (y : X) → cond b (Ok x) (Err cause) ≡ Ok y →
+    (b ≡ true) × (x ≡ y)
 cond_ok true x cause y e = (refl, cc)
 cond_ok false x cause y e = absurd cc
 
 abbrev IsFrom : ℕ → ℕ → ℕ → Type 0
 IsFrom least most n = (least ≤ n) × (n ≤ most)
 
-number_to : (least most : ℕ) → most < 2 ^ 64 → (v : Word) (n : ℕ) → number_judge least most v ≡ Ok n → (v ≡ decimal n) × IsFrom least most n
+number_to : (least most : ℕ) → most < 2 ^ 64 → (v : Word) (n : ℕ) → number_judge least most v ≡ Ok n →
+    (v ≡ decimal n) × IsFrom least most n
 number_to least most small v n e =
-    elim (chosen (is_digits v) (cond (is_canonical v && nat_le least (number_of v) && nat_le (number_of v) most) (Ok (number_of v)) (Err Number)) (Err Syntax) (Ok n) e) [
+    elim (chosen (is_digits v) (cond (is_canonical v && nat_le least (number_of v) && nat_le (number_of v) most)
+    (Ok (number_of v)) (Err Number)) (Err Syntax) (Ok n) e) [
       | inl digits ↦
           let given = cond_ok _ (number_of v) Number n digits.1 in
           let tests = and_parts _ _ given.0 in
           let front = and_parts _ _ tests.0 in
           let low = leb-true least (number_of v) front.1 in
           let high = leb-true (number_of v) most tests.1 in
-          subst (λ (m : ℕ). (v ≡ decimal m) × IsFrom least most m) given.1 (digits_decimal_of v digits.0 front.0 (omega arith), (low, high))
+          subst (λ (m : ℕ). (v ≡ decimal m) × IsFrom least most m) given.1
+          (digits_decimal_of v digits.0 front.0 (omega arith), (low, high))
       | inr other ↦ absurd (let e : ◌≡◌ {A = Result ℕ Cause} (Err Syntax) (Ok n) = other.1 in cc)
     ]
 
-number_back : (least most : ℕ) → most < 2 ^ 64 → (n : ℕ) → IsFrom least most n → number_judge least most (decimal n) ≡ Ok n
+number_back : (least most : ℕ) → most < 2 ^ 64 → (n : ℕ) → IsFrom least most n →
+    number_judge least most (decimal n) ≡ Ok n
 number_back least most small n range =
     let fits : n < 2 ^ 64 = omega (arith, range.1) in
     let number = decimal-number_of n fits in
     let low : nat_le least (number_of (decimal n)) ≡ true = ap (nat_le least) number ∙ le-leb least n range.0 in
     let high : nat_le (number_of (decimal n)) most ≡ true = ap (λ m. nat_le m most) number ∙ le-leb n most range.1 in
-    ap (λ b. cond b (cond (is_canonical (decimal n) && nat_le least (number_of (decimal n)) && nat_le (number_of (decimal n)) most) (Ok (number_of (decimal n))) (Err Number)) (Err Syntax)) (decimal-is_digits n fits)
-    ∙ ap (λ b. cond b (Ok (number_of (decimal n))) (Err Number)) (and_from _ _ (and_from _ _ (decimal-is_canonical n fits) low) high)
+    ap (λ b. cond b (cond (is_canonical (decimal n) && nat_le least
+    (number_of (decimal n)) && nat_le (number_of (decimal n)) most) (Ok (number_of (decimal n))) (Err Number))
+    (Err Syntax)) (decimal-is_digits n fits)
+    ∙ ap (λ b. cond b (Ok (number_of (decimal n))) (Err Number))
+    (and_from _ _ (and_from _ _ (decimal-is_canonical n fits) low) high)
     ∙ ap (λ m. Ok m) number
 
 pub number_law : (least most : ℕ) → most < 2 ^ 64 → IsExact (number least most) always
 unfolding number
-number_law least most small = token_law (number_judge least most) decimal (IsFrom least most) (number_to least most small) (number_back least most small)
+number_law least most small =
+    token_law (number_judge least most) decimal (IsFrom least most) (number_to least most small)
+    (number_back least most small)
 
 pub name_law : (cause : Word → Cause) → IsExact (name_or cause) always
 unfolding name_or
@@ -77,7 +89,32 @@ named_some None v x e = absurd cc
 
 pub op_named-name : (op : Op) → op_named (op_name op) ≡ Some op
 unfolding op_named
-op_named-name op = elim op as (λ o. op_named (op_name o) ≡ Some o) [ Not ↦ refl | Neg ↦ refl | And ↦ refl | Or ↦ refl | Xor ↦ refl | Add ↦ refl | Sub ↦ refl | Mul ↦ refl | Udiv ↦ refl | Urem ↦ refl | Shl ↦ refl | Lshr ↦ refl | Ashr ↦ refl | Eq ↦ refl | Ult ↦ refl | Ule ↦ refl | Slt ↦ refl | Sle ↦ refl | Umin ↦ refl | Umax ↦ refl | Smin ↦ refl | Smax ↦ refl | Ite ↦ refl ]
+op_named-name op =
+    elim op as (λ o. op_named (op_name o) ≡ Some o) [
+      | Not ↦ refl
+      | Neg ↦ refl
+      | And ↦ refl
+      | Or ↦ refl
+      | Xor ↦ refl
+      | Add ↦ refl
+      | Sub ↦ refl
+      | Mul ↦ refl
+      | Udiv ↦ refl
+      | Urem ↦ refl
+      | Shl ↦ refl
+      | Lshr ↦ refl
+      | Ashr ↦ refl
+      | Eq ↦ refl
+      | Ult ↦ refl
+      | Ule ↦ refl
+      | Slt ↦ refl
+      | Sle ↦ refl
+      | Umin ↦ refl
+      | Umax ↦ refl
+      | Smin ↦ refl
+      | Smax ↦ refl
+      | Ite ↦ refl
+    ]
 
 op_of_name : (v : Word) (op : Op) → op_named v ≡ Some op → v ≡ op_name op
 unfolding op_named
@@ -86,4 +123,5 @@ op_of_name v op e = sym (same_bytes (op_name op) v (found_passes (λ op. bytes_e
 pub operator_law : IsExact operator always
 unfolding operator
 operator_law = token_law operator_judge op_name (λ _. Unit {0})
-    (λ v op e. (op_of_name v op (named_some (op_named v) v op e), tt)) (λ op h. ap (λ o. named o (op_name op)) (op_named-name op))
+    (λ v op e. (op_of_name v op (named_some (op_named v) v op e), tt))
+    (λ op h. ap (λ o. named o (op_name op)) (op_named-name op))

@@ -1,5 +1,6 @@
 -- Canonical texts: words with one space between two, but none behind an opening parenthesis nor before a closing one.
-use Rattle.std.specs.Prelude.{◌≡◌, ℕ, ◌||◌, true, if◌then◌else◌, List, [], ◌∷◌, ◌++◌, bytes_eq, codes, flat_map, ◌⊎◌, Result, Ok, Err}
+use Rattle.std.specs.Prelude.{◌≡◌, ℕ, ◌||◌, true, if◌then◌else◌, List, [], ◌∷◌, ◌++◌, bytes_eq, codes, flat_map, ◌⊎◌}
+use Rattle.std.specs.Prelude.{Result, Ok, Err}
 use Rattle.std.specs.List.{AllByRecursion, list_all}
 use Rattle.am_text.specs.Tokens.{IsParenthesis, IsWord, is_allowed}
 use Rattle.am_bv.specs.declared.term.Term.{Term}

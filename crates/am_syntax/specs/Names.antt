@@ -1,8 +1,10 @@
 -- How operators are called, and the word that names one.
-use Rattle.std.specs.Prelude.{Bool, is_some, ◌||◌, if◌then◌else◌, find, Option, Some, None, Result, Ok, Err, bytes_eq, codes}
+use Rattle.std.specs.Prelude.{Bool, is_some, ◌||◌, if◌then◌else◌, find, Option, Some, None, Result, Ok, Err, bytes_eq}
+use Rattle.std.specs.Prelude.{codes}
 use Rattle.am_bv.specs.declared.op.Op.{Op}
 use Rattle.am_bv.specs.declared.op.TheConstants.Op.{ALL}
-use Rattle.am_bv.specs.declared.op.Op.TheVariants.{Not, Neg, And, Or, Xor, Add, Sub, Mul, Udiv, Urem, Shl, Lshr, Ashr, Eq, Ult, Ule, Slt, Sle, Umin, Umax, Smin, Smax, Ite}
+use Rattle.am_bv.specs.declared.op.Op.TheVariants.{Not, Neg, And, Or, Xor, Add, Sub, Mul, Udiv, Urem, Shl, Lshr, Ashr}
+use Rattle.am_bv.specs.declared.op.Op.TheVariants.{Eq, Ult, Ule, Slt, Sle, Umin, Umax, Smin, Smax, Ite}
 use Rattle.am_syntax.specs.declared.refusal.Cause.{Cause}
 use Rattle.am_syntax.specs.declared.refusal.Cause.TheVariants.{Syntax, Name}
 use Rattle.am_syntax.specs.Readers.{Word}

@@ -1,5 +1,6 @@
 -- Pieces of a text: how a value is spelled, which values are good, and how one is read.
-use Rattle.std.specs.Prelude.{◌≡◌, ℕ, zero, suc, ◌≤◌, ◌<◌, Bool, false, ◌&&◌, nat_le, if◌then◌else◌, List, [], ◌∷◌, ◌++◌, length, Option, Some, None, Result, Ok, Err, bytes_eq, codes, decimal, IsTrue, ◌⊎◌}
+use Rattle.std.specs.Prelude.{◌≡◌, ℕ, zero, suc, ◌≤◌, ◌<◌, Bool, false, ◌&&◌, nat_le, if◌then◌else◌, List, [], ◌∷◌}
+use Rattle.std.specs.Prelude.{◌++◌, length, Option, Some, None, Result, Ok, Err, bytes_eq, codes, decimal, IsTrue, ◌⊎◌}
 use Rattle.std.proofs.Common.{inl, inr}
 use Rattle.am_text.specs.Tokens.{Left, words}
 use Rattle.am_syntax.specs.declared.refusal.Cause.{Cause}
@@ -41,7 +42,8 @@ closing = key_or count (codes ")")
 abbrev pub number_judge : ℕ → ℕ → Word → Result ℕ Cause
 number_judge least most v =
     if is_digits v
-    then (if is_canonical v && nat_le least (number_of v) && nat_le (number_of v) most then Ok (number_of v) else Err Number)
+    then (if is_canonical v && nat_le least (number_of v) && nat_le (number_of v) most then Ok
+    (number_of v) else Err Number)
     else Err Syntax
 
 -- a numeral from least to most
@@ -161,7 +163,8 @@ times item n = record {
 
 -- each item takes a token at least
 abbrev pub MovesOn : {X : Type 0} → (List X → Reader X) → Type 0
-MovesOn {X = X} item = (seen : List X) (s : Left) (x : X) (t : Left) → item seen s ≡ Ok (x, t) → length t.tokens < length s.tokens
+MovesOn {X = X} item =
+    (seen : List X) (s : Left) (x : X) (t : Left) → item seen s ≡ Ok (x, t) → length t.tokens < length s.tokens
 
 -- items behind those that were seen, while a test of what is left says so, of at most n tokens
 unfoldable pub repeat_in : {X : Type 0} → (Words → Bool) → (List X → Reader X) → ℕ → List X → Reader (List X)

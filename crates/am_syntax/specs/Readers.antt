@@ -1,5 +1,5 @@
 -- Reading from left to right: a value and what is left, or why the first token of what is left is refused.
-use Rattle.std.specs.Prelude.{◌≡◌, ℕ, List, [], ◌∷◌, Result, Ok, Err}
+use Rattle.std.specs.Prelude.{◌≡◌, ℕ, List, [], ◌∷◌, drop, Result, Ok, Err}
 use Rattle.am_text.specs.Tokens.{Left, Placed}
 use Rattle.am_syntax.specs.declared.refusal.Cause.{Cause}
 use Rattle.am_syntax.specs.declared.refusal.Cause.TheVariants.{Syntax}
@@ -43,19 +43,38 @@ judged_in judge (t ∷ ts) end = settled t ts end (judge t.word)
 unfoldable pub judged : {X : Type 0} → (Word → Result X Cause) → Reader X
 judged judge s = judged_in judge s.tokens s.end
 
+-- ---- where a reader stops
+
+-- so many tokens were taken, and the others are left
+pub record Reached (old new : Left) : Type 0 where
+  pub taken : ℕ
+  pub rest : new.tokens ≡ drop taken old.tokens
+  pub same_end : new.end ≡ old.end
+
+abbrev pub left_by : {X : Type 0} → Read X → Left
+left_by (Ok p) = p.1
+left_by (Err stop) = stop.1
+
+-- a reader goes forward alone: whether it reads or refuses, what is left was reached from what was left
+abbrev pub Advances : {X : Type 0} → Reader X → Type 0
+Advances reader = (s : Left) → Reached s (left_by (reader s))
+
+-- ---- what functions return
+
 -- what a function returned, seen by view, and what it left: just what a reader reads
-abbrev pub Gives : {X Y : Type 0} → (X → Y) → Result X Cause → Left → Read Y → Type 0
-Gives view (Ok x) left read = read ≡ Ok (view x, left)
-Gives view (Err cause) left read = read ≡ Err (cause, left)
+abbrev pub Gives : {X Y : Type 0} → (X → Y) → Result X Cause → Left → Left → Reader Y → Type 0
+Gives view (Ok x) old new reader = reader old ≡ Ok (view x, new)
+Gives view (Err cause) old new reader = reader old ≡ Err (cause, new)
 
--- the same of a function that takes memory, unless that ran out
-abbrev pub Fails : {Y : Type 0} → Failure → Left → Read Y → Type 0
-Fails (Refused cause) left read = read ≡ Err (cause, left)
-Fails NoMemory left read = Unit {0}
+-- the reader's refusal, at the token that it refuses, or want of memory, at some token that was reached
+abbrev pub Fails : {Y : Type 0} → Failure → Left → Left → Read Y → Type 0
+Fails (Refused cause) old new read = read ≡ Err (cause, new)
+Fails NoMemory old new read = Reached old new
 
-abbrev pub Makes : {X Y : Type 0} → (X → Y) → Result X Failure → Left → Read Y → Type 0
-Makes view (Ok x) left read = read ≡ Ok (view x, left)
-Makes view (Err e) left read = Fails e left read
+-- the same of a function that takes memory
+abbrev pub Makes : {X Y : Type 0} → (X → Y) → Result X Failure → Left → Left → Reader Y → Type 0
+Makes view (Ok x) old new reader = reader old ≡ Ok (view x, new)
+Makes view (Err e) old new reader = Fails e old new (reader old)
 
 -- a judge's function
 abbrev pub Says : {X Y : Type 0} → (X → Y) → Result X Cause → Result Y Cause → Type 0

@@ -1,5 +1,6 @@
 -- How a term is read. Refusals are born in its judges.
-use Rattle.std.specs.Prelude.{ℕ, zero, suc, ◌-◌, ◌^◌, Bool, true, false, ◌&&◌, ◌||◌, ◌==◌, nat_lt, if◌then◌else◌, List, [], ◌∷◌, Option, Some, None, Result, Ok, Err, bytes_eq, codes, sum_by}
+use Rattle.std.specs.Prelude.{ℕ, zero, suc, ◌-◌, ◌^◌, Bool, true, false, ◌&&◌, ◌||◌, ◌==◌, nat_lt, if◌then◌else◌, List}
+use Rattle.std.specs.Prelude.{[], ◌∷◌, Option, Some, None, Result, Ok, Err, bytes_eq, codes, sum_by}
 use Rattle.am_bv.specs.Operators.{arity}
 use Rattle.am_bv.specs.Terms.{nodes}
 use Rattle.am_bv.specs.declared.term.Term.{Term}

@@ -10,7 +10,7 @@ use Rattle.am_syntax.specs.declared.refusal.Refusal.TheVariants.{BadByte, Syntax
 use Rattle.am_syntax.specs.declared.refusal.ReadError.{ReadError}
 use Rattle.am_syntax.specs.declared.refusal.ReadError.TheVariants.{Refused, NoMemory}
 use Rattle.am_syntax.specs.Pieces.{Piece}
-use Rattle.am_syntax.specs.Readers.{Read}
+use Rattle.am_syntax.specs.Readers.{Reached, Read, Reader}
 
 abbrev pub refusal_at : Cause → ℕ → Refusal
 refusal_at cause.Syntax place = Syntax place
@@ -32,15 +32,15 @@ abbrev pub IsRefusedAt : {Y : Type 0} → Refusal → Left → Read Y → Type 0
 IsRefusedAt r left read = (cause : Cause) × (read ≡ Err (cause, left)) × (r ≡ refusal_at cause (next_place left))
 
 -- what a function returned, seen by view, and where the cursor stands then
-abbrev pub GivesAt : {X Y : Type 0} → (X → Y) → Result X Refusal → Left → Read Y → Type 0
-GivesAt view (Ok x) left read = read ≡ Ok (view x, left)
-GivesAt view (Err r) left read = IsRefusedAt r left read
+abbrev pub GivesAt : {X Y : Type 0} → (X → Y) → Result X Refusal → Left → Left → Reader Y → Type 0
+GivesAt view (Ok x) old new reader = reader old ≡ Ok (view x, new)
+GivesAt view (Err r) old new reader = IsRefusedAt r new (reader old)
 
--- the same of a function that takes memory, unless that ran out
-abbrev pub MakesAt : {X Y : Type 0} → (X → Y) → Result X ReadError → Left → Read Y → Type 0
-MakesAt view (Ok x) left read = read ≡ Ok (view x, left)
-MakesAt view (Err (Refused r)) left read = IsRefusedAt r left read
-MakesAt view (Err NoMemory) left read = Unit {0}
+-- the same of a function that takes memory: without any, the cursor stands at some token that was reached
+abbrev pub MakesAt : {X Y : Type 0} → (X → Y) → Result X ReadError → Left → Left → Reader Y → Type 0
+MakesAt view (Ok x) old new reader = reader old ≡ Ok (view x, new)
+MakesAt view (Err (Refused r)) old new reader = IsRefusedAt r new (reader old)
+MakesAt view (Err NoMemory) old new reader = Reached old new
 
 -- ---- whole texts
 

@@ -27,7 +27,8 @@ TermsAreExact = (w : ℕ) (limits : TermLimits) → IsScope (scope_of w limits) 
 
 -- a text is a term's, within limits, or has a first refusal, and not both
 abbrev pub TermTextsAreSettled : Type 0
-TermTextsAreSettled = (w : ℕ) (limits : TermLimits) → IsScope (scope_of w limits) → (text : List ℕ) → IsSettled (term w limits) text
+TermTextsAreSettled =
+    (w : ℕ) (limits : TermLimits) → IsScope (scope_of w limits) → (text : List ℕ) → IsSettled (term w limits) text
 
 -- what was printed has the words of the term, and reads back
 abbrev pub PrintedTermsReadBack : Type 0

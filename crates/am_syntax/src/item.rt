@@ -3,7 +3,7 @@
 ghost use Rattle.std.specs.Prelude.{◌≡◌, [], map};
 ghost use Rattle.am_text.specs.Tokens.{words};
 ghost use Rattle.am_syntax.specs.Pieces.{MovesOn, repeat_from, times_from};
-ghost use Rattle.am_syntax.specs.Readers.{Makes};
+ghost use Rattle.am_syntax.specs.Readers.{Advances, Makes};
 
 use crate::refusal::Failure;
 use am_bv::Row;
@@ -30,6 +30,11 @@ pub trait Item<'a> {
     ghost can: { Self → Type 0 };
 
     /// Reads an item behind those seen.
+    ///
+    /// # Errors
+    ///
+    /// `Refused`: the first token that no item has here. The cursor stands at it. `NoMemory`: the
+    /// cursor stands at some token that the call had reached.
     fn read(
         &self,
         alloc: Global,
@@ -37,7 +42,7 @@ pub trait Item<'a> {
         seen: &[Self::Value],
     ) -> Result<Self::Value, Failure>
         requires { can self.now }
-        ensures { Makes view result text.new (reads self.now (map view seen.now) text.old) };
+        ensures { Makes view result text.old text.new (reads self.now (map view seen.now)) };
 }
 
 /// What stands one after the other as long as the text goes on so.
@@ -45,22 +50,29 @@ pub trait Listed<'a>: Item<'a> {
     ghost use Rattle.std.specs.Prelude.{Bool};
     ghost use Rattle.am_syntax.specs.Readers.{Words};
 
-    /// Whether an item comes.
+    /// Whether an item comes before these words.
     ghost goes: { Words → Bool };
 
+    /// Whether an item comes.
     fn comes(&self, text: &Cursor<'a>) -> bool
         ensures { result ≡ goes (words text.now) };
 }
 
 /// Reads so many items.
+///
+/// # Errors
+///
+/// `Refused`: an item's refusal. The cursor stands at the refused token. `NoMemory`: the cursor
+/// stands at some token that the call had reached.
 pub fn read_times<'a, I: Item<'a>>(
     alloc: Global,
     text: &mut Cursor<'a>,
     item: &I,
     count: u32,
 ) -> Result<Row<I::Value>, Failure>
-    requires { I.can item.now }
-    ensures { Makes (map I.view) result text.new (times_from (I.reads item.now) count [] text.old) }
+    requires can { I.can item.now }
+    requires advances { (seen : _) → Advances (I.reads item.now seen) }
+    ensures { Makes (map I.view) result text.old text.new (times_from (I.reads item.now) count []) }
 {
     let mut found = Row::new(alloc);
     'items: for _ in 0..count {
@@ -70,14 +82,20 @@ pub fn read_times<'a, I: Item<'a>>(
 }
 
 /// Reads items as long as one comes.
+///
+/// # Errors
+///
+/// `Refused`: an item's refusal. The cursor stands at the refused token. `NoMemory`: the cursor
+/// stands at some token that the call had reached.
 pub fn read_list<'a, I: Listed<'a>>(
     alloc: Global,
     text: &mut Cursor<'a>,
     item: &I,
 ) -> Result<Row<I::Value>, Failure>
     requires can { I.can item.now }
+    requires advances { (seen : _) → Advances (I.reads item.now seen) }
     requires moves { MovesOn (I.reads item.now) }
-    ensures { Makes (map I.view) result text.new (repeat_from I.goes (I.reads item.now) [] text.old) }
+    ensures { Makes (map I.view) result text.old text.new (repeat_from I.goes (I.reads item.now) []) }
 {
     let mut found = Row::new(alloc);
     'items: while item.comes(text) {

@@ -37,7 +37,7 @@ pub trait Judge<'a> {
 ///
 /// The judge's verdict, or `Syntax` at the end of the text. The cursor stays.
 pub fn take<'a, J: Judge<'a>>(text: &mut Cursor<'a>, judge: &J) -> Result<J::Value, Cause>
-    ensures value { Gives J.view result text.new (judged (J.verdict judge.now) text.old) }
+    ensures value { Gives J.view result text.old text.new (judged (J.verdict judge.now)) }
     ensures known { IfOk result (J.known judge.now) }
 {
     let mut behind = text.fork();

@@ -14,7 +14,7 @@
 //! ```text
 //! /// `width` and the number of bits.
 //! fn read_width(text: &mut Cursor<'_>) -> Result<u64, Cause>
-//!     ensures { Gives (λ n. n) result text.new ((keyed (codes "width") (number 2 8)).read text.old) }
+//!     ensures { Gives (λ n. n) result text.old text.new (keyed (codes "width") (number 2 8)).read }
 //! {
 //!     take_key(text, b"width")?;
 //!     take_number(text, 2, 8)
@@ -27,14 +27,16 @@
 //! # What is proved
 //!
 //! For each way of putting pieces together one law is proved, once: what a piece reads is spelled
-//! so and is good, and what is good and spelled so is read, where what follows may follow.
+//! so and is good; what is good and spelled so is read, where what follows may follow; and the tokens
+//! that are left behind a value, or from a refused token on, are the rest of those that were left.
 //! [`take`], [`read_times`] and [`read_list`] answer exactly what the pieces read, for every judge
-//! and item. A refusal leaves the cursor at the refused token. [`read_number`], [`read_name`] and
-//! [`read_term`] answer exactly the number, name or term that is spelled, or the first refusal with
-//! the place of its token; a text of a term has a value or a first refusal, and not both.
-//! [`print_term`] appends the term's canonical text, and after want of memory the writer holds its
-//! old text and a part of the new; a printed term has the term's words, and reads back. The depth
-//! of the calls of [`read_term`] is at most the nesting allowed, which is tested before going down.
+//! and item. A refusal leaves the cursor at the refused token, want of memory at some token that the
+//! call had reached. [`read_number`], [`read_name`] and [`read_term`] answer exactly the number, name
+//! or term that is spelled, or the first refusal with the place of its token; a text of a term has a
+//! value or a first refusal, and not both. [`print_term`] appends the term's canonical text, and
+//! after want of memory the writer holds its old text and a part of the new; a printed term has the
+//! term's words, and reads back. The depth of the calls of [`read_term`] is at most the nesting
+//! allowed, which is tested before going down.
 #![tactic(auto)]
 
 mod item;

@@ -90,7 +90,7 @@ impl<'a> Judge<'a> for Operator {
 /// Takes the name of an operator.
 #[tactic(auto, unfolding(crate::specs::Names::operator))]
 pub fn take_operator(text: &mut Cursor<'_>) -> Result<Op, Cause>
-    ensures { Gives (λ op. op) result text.new (operator.read text.old) }
+    ensures { Gives (λ op. op) result text.old text.new operator.read }
 {
     take(text, &Operator)
 }

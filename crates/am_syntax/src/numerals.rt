@@ -2,7 +2,8 @@
 
 ghost use Rattle.std.specs.Prelude.{◌≡◌, ◌+◌, ◌*◌, ◌-◌, ◌≤◌, ◌^◌, IfNone, IfSome};
 ghost use Rattle.std.specs.List.{list_all};
-ghost use Rattle.am_syntax.specs.Numerals.{is_alphanumeric, is_canonical, is_digit, is_digits, is_name, is_numeral, number_of};
+ghost use Rattle.am_syntax.specs.Numerals.{is_alphanumeric, is_canonical, is_digit, is_digits};
+ghost use Rattle.am_syntax.specs.Numerals.{is_name, is_numeral, number_of};
 
 fn all_digits(word: &[u8]) -> bool
     ensures { result ≡ list_all is_digit word.now }

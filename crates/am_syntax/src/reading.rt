@@ -20,7 +20,7 @@ use std::alloc::Global;
 /// `Syntax`: the next token is no row of digits. `Number`: it has a leading zero before another
 /// digit, or is above `max`. The cursor stays.
 pub fn read_number(c: &mut Cursor<'_>, max: u64) -> Result<u64, Refusal>
-    ensures { GivesAt (λ n. n) result c.new ((number 0 max).read c.old) }
+    ensures { GivesAt (λ n. n) result c.old c.new (number 0 max).read }
 {
     match take_number(c, 0, max) {
         Ok(n) => Ok(n),
@@ -34,7 +34,7 @@ pub fn read_number(c: &mut Cursor<'_>, max: u64) -> Result<u64, Refusal>
 ///
 /// `Syntax`: the next token is no name. The cursor stays.
 pub fn read_name<'a>(c: &mut Cursor<'a>) -> Result<&'a [u8], Refusal>
-    ensures { GivesAt (λ v. v.now) result c.new (name.read c.old) }
+    ensures { GivesAt (λ v. v.now) result c.old c.new name.read }
 {
     match take_name(c) {
         Ok(name) => Ok(name),
@@ -47,14 +47,14 @@ pub fn read_name<'a>(c: &mut Cursor<'a>) -> Result<&'a [u8], Refusal>
 /// # Errors
 ///
 /// `Refused`: the first refusal. The cursor stands at the refused token. `NoMemory`: the cursor
-/// stands at some token of the term.
+/// stands at some token that the call had reached.
 pub fn read_term(
     alloc: Global,
     c: &mut Cursor<'_>,
     w: Width,
     limits: &TermLimits,
 ) -> Result<Term, ReadError>
-    ensures { MakesAt (λ t. t) result c.new ((term w limits.now).read c.old) }
+    ensures { MakesAt (λ t. t) result c.old c.new (term w limits.now).read }
 {
     let read = take_term(alloc, c, w, limits);
     placed(read, &*c)

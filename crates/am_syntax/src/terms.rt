@@ -7,7 +7,8 @@ ghost use Rattle.am_syntax.specs.declared.refusal.Cause.TheVariants.{Name};
 ghost use Rattle.am_syntax.specs.Numerals.{number_of};
 ghost use Rattle.am_syntax.specs.Readers.{Gives, Makes, judged};
 ghost use Rattle.am_syntax.specs.Spelling.{scope_of};
-ghost use Rattle.am_syntax.specs.Terms.{begins_capital, constant_judge, head_judge, leaf_judge, term, term_at, variable_judge, within};
+ghost use Rattle.am_syntax.specs.Terms.{begins_capital, constant_judge, head_judge, leaf_judge};
+ghost use Rattle.am_syntax.specs.Terms.{term, term_at, variable_judge, within};
 
 use crate::judge::{Judge, take};
 use crate::limits::TermLimits;
@@ -154,7 +155,7 @@ fn take_head(
     room: u64,
 ) -> Result<Option<Term>, Cause>
     ensures value { let head = head_judge (scope_of w limits.now) inside depth room in
-        Gives (λ h. h) result text.new (judged head text.old) }
+        Gives (λ h. h) result text.old text.new (judged head) }
     ensures room { OnOk result (0 < room) }
     ensures deeper { result ≡ Ok None → 0 < depth }
 {
@@ -180,8 +181,8 @@ fn read_node(
     depth: u32,
     room: &mut u64,
 ) -> Result<Term, Failure>
-    ensures term { Makes (λ t. t) result text.new
-        (term_at (scope_of w limits.now) inside depth room.old text.old) }
+    ensures term { Makes (λ t. t) result text.old text.new
+        (term_at (scope_of w limits.now) inside depth room.old) }
     ensures room { IfOk result (λ t. room.new + nodes t ≡ room.old) }
 {
     let head = take_head(text, w, limits, inside, depth, *room)?;
@@ -201,13 +202,18 @@ fn read_node(
 }
 
 /// Reads a term at width `w` within these limits.
+///
+/// # Errors
+///
+/// `Refused`: the first refusal. The cursor stands at the refused token. `NoMemory`: the cursor
+/// stands at some token that the call had reached.
 pub fn take_term(
     alloc: Global,
     text: &mut Cursor<'_>,
     w: Width,
     limits: &TermLimits,
 ) -> Result<Term, Failure>
-    ensures { Makes (λ t. t) result text.new ((term w limits.now).read text.old) }
+    ensures { Makes (λ t. t) result text.old text.new (term w limits.now).read }
 {
     let mut room = limits.nodes;
     read_node(alloc, text, w, limits, false, limits.nesting, &mut room)

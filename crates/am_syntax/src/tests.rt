@@ -1,5 +1,5 @@
 use super::*;
-use am_bv::{Term, Width};
+use am_bv::{Row, Term, Width};
 use am_text::{Cursor, Writer};
 use std::alloc::{AllocError, Global};
 use std::test::Fail;
@@ -267,6 +267,67 @@ fn so_many_names_are_read(rt: HostRuntime) -> Result<(), Fail> {
         names.as_slice(),
         [b"L".as_slice(), b"H".as_slice()].as_slice()
     );
+    Ok(())
+}
+
+/// Names, up to an `end`.
+#[derive(Clone, Copy)]
+struct UpToEnd;
+
+impl<'a> Item<'a> for UpToEnd {
+    ghost use Rattle.am_syntax.specs.Pieces.{name};
+    ghost use Rattle.am_syntax.specs.Readers.{Word};
+
+    type Value = &'a [u8];
+
+    ghost Shown = { Word };
+
+    ghost view = { λ v. v.now };
+
+    ghost reads = { λ _ _. name.read };
+
+    ghost can = { λ _. Unit {0} };
+
+    fn read(
+        &self,
+        _alloc: Global,
+        text: &mut Cursor<'a>,
+        _seen: &[&'a [u8]],
+    ) -> Result<&'a [u8], Failure> {
+        Ok(take_name(text)?)
+    }
+}
+
+impl<'a> Listed<'a> for UpToEnd {
+    ghost use Rattle.std.specs.Prelude.{codes, not};
+    ghost use Rattle.am_syntax.specs.Pieces.{next_is};
+
+    ghost goes = { λ words. not (next_is (codes "end") words) };
+
+    fn comes(&self, text: &Cursor<'a>) -> bool {
+        !is_next(text, b"end")
+    }
+}
+
+fn names_up_to_end<'a>(alloc: Global, text: &'a [u8]) -> Result<Row<&'a [u8]>, ReadError> {
+    let mut cursor = open(text)?;
+    let names = read_list(alloc, &mut cursor, &UpToEnd);
+    placed(names, &cursor)
+}
+
+#[test]
+fn names_are_read_up_to_an_end(rt: HostRuntime) -> Result<(), Fail> {
+    let names = names_up_to_end(rt.alloc(), b"L H end")?;
+    assert_eq!(rt;
+        names.as_slice(),
+        [b"L".as_slice(), b"H".as_slice()].as_slice()
+    );
+    for (text, place) in [(b"L h end".as_slice(), 2), (b"L".as_slice(), 1)] {
+        assert_eq!(rt;
+            names_up_to_end(rt.alloc(), text).err(),
+            Some(ReadError::Refused(Refusal::Syntax(place)))
+        );
+    }
     Ok(())
 }
 

@@ -1,6 +1,8 @@
 //! Laws of reading and printing, in the words of `specs/Theorems.antt`.
 
-ghost use Rattle.am_syntax.specs.Theorems.{NamesAreExact, NumbersAreExact, OperatorsAreExact, PrintedTermsReadBack, TermTextsAreSettled, TermsAreExact};
+ghost use Rattle.am_syntax.specs.Theorems.{NamesAreExact, NumbersAreExact, OperatorsAreExact};
+ghost use Rattle.am_syntax.specs.Theorems.{PrintedTermsReadBack, TermTextsAreSettled};
+ghost use Rattle.am_syntax.specs.Theorems.{TermsAreExact};
 
 /// Numerals, names and operators are read exactly where they are spelled.
 pub fn tokens_are_exact()

@@ -175,7 +175,7 @@ pub fn is_next(text: &Cursor<'_>, word: &[u8]) -> bool
 /// Takes a key word.
 #[tactic(auto, unfolding(crate::specs::Pieces::key_or))]
 pub fn take_key(text: &mut Cursor<'_>, word: &[u8]) -> Result<(), Cause>
-    ensures { Gives (λ _. tt) result text.new ((key word.now).read text.old) }
+    ensures { Gives (λ _. tt) result text.old text.new (key word.now).read }
 {
     take(text, &Key { word })
 }
@@ -183,7 +183,7 @@ pub fn take_key(text: &mut Cursor<'_>, word: &[u8]) -> Result<(), Cause>
 /// Takes a closing parenthesis behind the last argument of an operator.
 #[tactic(auto, unfolding(crate::specs::Pieces::key_or))]
 pub fn take_closing(text: &mut Cursor<'_>) -> Result<(), Cause>
-    ensures { Gives (λ _. tt) result text.new (closing.read text.old) }
+    ensures { Gives (λ _. tt) result text.old text.new closing.read }
 {
     take(text, &Closing)
 }
@@ -191,7 +191,7 @@ pub fn take_closing(text: &mut Cursor<'_>) -> Result<(), Cause>
 /// Takes a numeral of a number from `least` to `most`.
 #[tactic(auto, unfolding(crate::specs::Pieces::number))]
 pub fn take_number(text: &mut Cursor<'_>, least: u64, most: u64) -> Result<u64, Cause>
-    ensures value { Gives (λ n. n) result text.new ((number least most).read text.old) }
+    ensures value { Gives (λ n. n) result text.old text.new (number least most).read }
     ensures range { IfOk result (λ n. (least ≤ n) × (n ≤ most)) }
 {
     take(text, &Number { least, most })
@@ -200,7 +200,7 @@ pub fn take_number(text: &mut Cursor<'_>, least: u64, most: u64) -> Result<u64, 
 /// Takes a nonterminal's name.
 #[tactic(auto, unfolding(crate::specs::Pieces::name_or))]
 pub fn take_name<'a>(text: &mut Cursor<'a>) -> Result<&'a [u8], Cause>
-    ensures { Gives (λ v. v.now) result text.new (name.read text.old) }
+    ensures { Gives (λ v. v.now) result text.old text.new name.read }
 {
     take(text, &Name)
 }

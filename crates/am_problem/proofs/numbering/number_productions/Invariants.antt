@@ -4,4 +4,6 @@ use Rattle.am_problem.specs.Texts.{numbered_production}
 use Rattle.am_problem.proofs.numbering.number_productions.Given as goal
 
 abbrev pub invariant-loop-production : goal.invariant-loop-production
-invariant-loop-production l = l.numbered ≡ map (numbered_production (seen_names l.names.keys)) (seen_productions (take l.production-index l.productions))
+invariant-loop-production l =
+    l.numbered ≡ map (numbered_production (seen_names l.names.keys))
+    (seen_productions (take l.production-index l.productions))

@@ -6,4 +6,6 @@ use Rattle.am_problem.specs.StoredLines.{seen_names}
 use Rattle.am_problem.proofs.rules.read_arguments.Goals as goal
 
 pub returns : goal.returns
-returns c = subst (λ n. Makes seen_names c.read_names.result c.read_names.new.text ((times (λ _. name_before (codes ")")) n).read c.args.text.now)) c.arity.ensures.value c.read_names.ensures
+returns c =
+    subst (λ n. Makes seen_names c.read_names.result c.args.text.now c.read_names.new.text
+    (times (λ _. name_before (codes ")")) n).read) c.arity.ensures.value c.read_names.ensures

@@ -8,4 +8,6 @@ abbrev pub decreases-tokens : goal.decreases-tokens
 decreases-tokens l = length l.text.tokens
 
 abbrev pub invariant-tokens : goal.invariant-tokens
-invariant-tokens l = undefined_in (names_of (seen_rules l.rules)) l.text.tokens ≡ undefined_in (names_of (seen_rules l.rules)) l.initial.text.tokens
+invariant-tokens l =
+    undefined_in (names_of (seen_rules l.rules)) l.text.tokens ≡ undefined_in (names_of (seen_rules l.rules))
+    l.initial.text.tokens

@@ -13,4 +13,7 @@ invariant_of-result c =
     c.first_undefined-undefined.ensures
     ∙ ap (λ rules. undefined_in (names_of (seen_rules rules)) c.fork-ahead.result.tokens) c.as_slice.ensures
     ∙ ap (λ (s : Left). undefined_in (names_of lines.rules) s.tokens) c.fork-ahead.ensures in
-    record { formed = λ none. formed_lines lines c.args.text.now c.read_lines.new.text c.in_ok-lines.ensures (sym undefined ∙ none) }
+    record {
+      formed = λ none. formed_lines lines c.args.text.now c.read_lines.new.text c.in_ok-lines.ensures
+          (sym undefined ∙ none);
+    }

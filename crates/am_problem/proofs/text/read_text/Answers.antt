@@ -10,7 +10,8 @@ use Rattle.am_problem.proofs.text.read_text.Goals as goal
 pub invariant_of-result : goal.invariant_of-result
 invariant_of-result c =
     let lines = seen_lines c.in_ok-lines.lines in
-    let undefined : c.first_undefined-undefined.result ≡ undefined_in (names_of lines.rules) (tokens_at 0 c.args.text.now) =
+    let undefined : c.first_undefined-undefined.result ≡ undefined_in (names_of lines.rules)
+    (tokens_at 0 c.args.text.now) =
     c.first_undefined-undefined.ensures
     ∙ ap (λ rules. undefined_in (names_of (seen_rules rules)) c.in_ok-cursor.cursor.tokens) c.as_slice.ensures
     ∙ ap (λ (s : Left). undefined_in (names_of lines.rules) s.tokens) c.in_ok-cursor.ensures.ok in
@@ -19,7 +20,8 @@ invariant_of-result c =
 pub returns : goal.returns
 returns c =
     let lines = seen_lines c.in_ok-lines.lines in
-    let undefined : c.first_undefined-undefined.result ≡ undefined_in (names_of lines.rules) (tokens_at 0 c.args.text.now) =
+    let undefined : c.first_undefined-undefined.result ≡ undefined_in (names_of lines.rules)
+    (tokens_at 0 c.args.text.now) =
     c.first_undefined-undefined.ensures
     ∙ ap (λ rules. undefined_in (names_of (seen_rules rules)) c.in_ok-cursor.cursor.tokens) c.as_slice.ensures
     ∙ ap (λ (s : Left). undefined_in (names_of lines.rules) s.tokens) c.in_ok-cursor.ensures.ok in

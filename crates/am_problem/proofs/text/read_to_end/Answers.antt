@@ -9,5 +9,7 @@ use Rattle.am_problem.proofs.text.read_to_end.Goals as goal
 pub returns : goal.returns
 returns c =
     subst (λ r. Answers seen_lines r (text_value problem c.args.text.now)) (sym c.close.ensures)
-    (text_closed problem seen_lines c.args.text.now c.read_lines-read.new.text c.read_lines-read.result c.requires.allowed
-    (subst (λ s. Makes seen_lines c.read_lines-read.result c.read_lines-read.new.text (problem.read s)) c.requires.whole c.read_lines-read.ensures))
+    (text_closed problem seen_lines c.args.text.now c.read_lines-read.new.text c.read_lines-read.result
+    c.requires.allowed
+    (subst (λ s. Makes seen_lines c.read_lines-read.result s c.read_lines-read.new.text problem.read) c.requires.whole
+    c.read_lines-read.ensures))

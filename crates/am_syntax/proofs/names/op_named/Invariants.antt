@@ -1,6 +1,5 @@
 use Rattle.std.proofs.Common.{◌≡◌, drop, bytes_eq, find}
-use Rattle.am_syntax.specs.Names.{op_name}
-use Rattle.am_syntax.specs.Names.{op_named}
+use Rattle.am_syntax.specs.Names.{op_name, op_named}
 use Rattle.am_syntax.proofs.names.op_named.Given as goal
 
 abbrev pub invariant-loop-op : goal.invariant-loop-op

@@ -7,4 +7,6 @@ abbrev pub decreases-print_term : goal.decreases-print_term
 decreases-print_term l = goal.size-print_term l
 
 abbrev pub invariant-arguments : goal.invariant-arguments
-invariant-arguments l = l.out ≡ l.initial.out ++ flat_map (λ t. 32 ∷ term_text (letter_code l.letter) t) (take l.argument-index l.argument-items)
+invariant-arguments l =
+    l.out ≡ l.initial.out ++ flat_map (λ t. 32 ∷ term_text (letter_code l.letter) t)
+    (take l.argument-index l.argument-items)
