@@ -1,6 +1,7 @@
--- What proofs of other crates may cite of the rows, transformers and examples of problems.
+-- What proofs of other crates may cite of the rows, transformers and examples of problems, and of made problems.
 pub use Rattle.am_problem.proofs.Inputs.{rows_are_joined, inputs_are_tuples, tuples_are_cut, inputs_are_cut}
 pub use Rattle.am_problem.proofs.Inputs.{inputs_are_parts, rows_are_inputs, members_are_words, words_are_members}
 pub use Rattle.am_problem.proofs.Inputs.{results_are_values, true_examples_are_stored, valid_examples_are_stored}
 pub use Rattle.am_problem.proofs.Fitting.{derivable_terms_fit, results_are_tuples, operations_give_words}
 pub use Rattle.am_problem.proofs.Fitting.{rows_are_short}
+pub use Rattle.am_problem.proofs.GeneratorLaws.{made-problem, made-sound}

@@ -17,3 +17,6 @@ pub mod Cutting
 pub mod Inputs
 pub mod Fitting
 pub mod Laws
+pub mod MadeRules
+pub mod MadeDomains
+pub mod GeneratorLaws

@@ -1,6 +1,7 @@
 -- Facts on lists: all items by places and by recursion.
 use Rattle.std.proofs.Common.{◌≡◌, ℕ, zero, suc, ◌+◌, take, get_or, ◌<◌, List, [], ◌∷◌, ◌++◌, length, All, map, refl, ap, ◌∙◌, arith}
-use Rattle.std.specs.List.{AllByRecursion}
+use Rattle.std.specs.List.{AllByRecursion, range_with_len}
+use Rattle.std.specs.Prelude.{slice_index_or}
 
 module _ {X : Type 0} (P : X → Type 0) where
   pub all_places : (xs : List X) → AllByRecursion P xs → All P xs
@@ -49,3 +50,21 @@ grows_suc f g (x ∷ xs) (suc i) d below = ap (λ ys. f (g x) ∷ ys) (grows_suc
 -- one more item of a list that is mapped twice
 pub map_grows : {X Y Z : Type 0} (f : Y → Z) (g : X → Y) (xs : List X) (i : ℕ) (d : X) → i < length xs → map f (map g (take (i + 1) xs)) ≡ map f (map g (take i xs)) ++ f (g (get_or xs i d)) ∷ []
 map_grows f g xs i d below = ap (λ k. map f (map g (take k xs))) (let e : i + 1 ≡ suc i = omega arith in e) ∙ grows_suc f g xs i d below
+
+-- what holds of all items holds of the one at a place
+pub item_holds : {X : Type 0} (P : X → Type 0) (xs : List X) (i : ℕ) (d : X) → P d → AllByRecursion P xs →
+    P (slice_index_or xs i d)
+item_holds P [] i d other each = other
+item_holds P (x ∷ xs) zero d other each = each.0
+item_holds P (x ∷ xs) (suc i) d other each = item_holds P xs i d other each.1
+
+range_with_len-suc : (a n : ℕ) → range_with_len a (suc n) ≡ range_with_len a n ++ (a + n) ∷ []
+range_with_len-suc a zero = ap (λ i. i ∷ []) (omega arith)
+range_with_len-suc a (suc n) =
+    ap (λ is. a ∷ is) (range_with_len-suc (a + 1) n ∙ ap (λ i. range_with_len (a + 1) n ++ i ∷ []) (omega arith))
+
+-- one more number of a range
+pub range_with_len-more : (n : ℕ) → range_with_len 0 (n + 1) ≡ range_with_len 0 n ++ n ∷ []
+range_with_len-more n =
+    ap (range_with_len 0) (let e : n + 1 ≡ suc n = omega arith in e) ∙ range_with_len-suc 0 n
+    ∙ ap (λ i. range_with_len 0 n ++ i ∷ []) (let e : 0 + n ≡ n = omega arith in e)

@@ -10,4 +10,5 @@ pub mod Grammar
 pub mod Texts
 pub mod StoredLines
 pub mod StoredDraft
+pub mod Generator
 pub mod lemmas

@@ -4,7 +4,8 @@
 //! abstract domain ([`Kind`]), a grammar of terms with a start for each field of the result, and budgets.
 //! What it asks is one definition, `question_of` in `specs/Problem.antt`. [`read_problem`] reads the text of
 //! one, and [`problem_at`] one that stands in a longer text: a [`Draft`] has what the lines say, and
-//! [`Draft::settle`] looks up the names and tests the limits.
+//! [`Draft::settle`] looks up the names and tests the limits. [`make_problem`] makes the problem of a
+//! number, for trials of many problems.
 //!
 //! A [`Transformer`] has a term for each field of the result. A [`Positive`] example says what a
 //! transformer's result has to have at some inputs, a [`Negative`] one what it may not have, and a
@@ -17,7 +18,8 @@
 //! text has, within the limits, or the first refusal: of a byte; then from the left of a token, by the
 //! grammar in `specs/Grammar.antt`; then of a name without a rule; then of the slots; then of the load. For
 //! each text exactly one of the two exists ([`texts_are_settled`]). [`Problem::load`] is the bound on the
-//! gates of the problem's formulas in `specs/Loads.antt`.
+//! gates of the problem's formulas in `specs/Loads.antt`. [`make_problem`] answers exactly the problem that
+//! `specs/Generator.antt` has for the number; it is within all limits, and has a sound transformer.
 //!
 //! [`Problem::result`] is what a transformer answers, [`Problem::is_valid`], [`Problem::assumed`] and
 //! [`Problem::is_true`] are true exactly where inputs are abstract values, words meet the assumption and
@@ -29,6 +31,7 @@
 
 mod draft;
 mod examples;
+mod generator;
 mod header;
 mod kind;
 mod limits;
@@ -42,6 +45,7 @@ mod text;
 
 pub use draft::Draft;
 pub use examples::{Negative, Negatives, Positive, Positives, Transformer};
+pub use generator::{LAST_PROBLEM, make_problem};
 pub use kind::Kind;
 pub use limits::{MOST_CONFLICTS, MOST_INPUTS, MOST_LOAD, MOST_NODES, MOST_SLOTS, MOST_TURNS};
 pub use parts::{Name, Names};
@@ -51,5 +55,7 @@ pub use text::{problem_at, read_problem, texts_are_settled};
 
 #[cfg(test)]
 mod examples_tests;
+#[cfg(test)]
+mod generator_tests;
 #[cfg(test)]
 mod tests;

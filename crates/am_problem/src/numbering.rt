@@ -140,7 +140,7 @@ fn number_rules<'a>(
 }
 
 /// A name of its own.
-fn copy_name(alloc: Global, name: &[u8]) -> Result<Name, AllocError>
+pub(crate) fn copy_name(alloc: Global, name: &[u8]) -> Result<Name, AllocError>
     ensures { IfOk result (λ r. r ≡ name.now) }
 {
     let mut copy = Name::new(alloc);

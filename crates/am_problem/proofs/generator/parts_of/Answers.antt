@@ -1,0 +1,15 @@
+use Rattle.am_problem.proofs.GeneratorLaws.{made-problem}
+use Rattle.am_problem.proofs.generator.parts_of.Goals as goal
+
+pub invariant_of-result : goal.invariant_of-result
+invariant_of-result c =
+    record {
+      well_formed = rw (
+        c.in_ok-rules.ensures,
+        c.in_ok-starts.ensures,
+        c.depth_of.ensures,
+        c.fields-fields.ensures.value,
+        c.width_of-width.ensures,
+        c.kind_of-kind.ensures,
+      ) (made-problem c.args.n).formed.grammar;
+    }
