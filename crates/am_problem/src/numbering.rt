@@ -1,7 +1,6 @@
 //! Nonterminals by their numbers.
 
-ghost use Rattle.std.specs.Prelude.{◌≡◌, ◌≤◌, ◌<◌, IfOk, length, map};
-ghost use Rattle.std.specs.Borrow.{Bor};
+ghost use Rattle.std.specs.Prelude.{◌≡◌, ◌≤◌, IfOk, length, map};
 ghost use Rattle.am_problem.specs.Limits.{AreApart, IsFormed};
 ghost use Rattle.am_problem.specs.Stored.{seen_parts};
 ghost use Rattle.am_problem.specs.StoredLines.{seen_lines, seen_names, seen_production, seen_productions, seen_rules};

@@ -1,6 +1,6 @@
 //! The names of operators.
 
-ghost use Rattle.std.specs.Prelude.{◌≡◌, bytes_eq};
+ghost use Rattle.std.specs.Prelude.{◌≡◌};
 ghost use Rattle.am_syntax.specs.Names.{no_name, op_name, op_named, operator};
 ghost use Rattle.am_syntax.specs.Readers.{Gives};
 

@@ -1,6 +1,5 @@
 //! Printing of terms.
 
-ghost use Rattle.std.specs.Prelude.{◌≡◌, ◌++◌, OnOk};
 ghost use Rattle.am_syntax.specs.Canonical.{Appends, term_text};
 ghost use Rattle.am_syntax.specs.Spelling.{FitsSomewhere, letter_code};
 
