@@ -5,3 +5,4 @@ pub use Rattle.am_problem.proofs.Inputs.{results_are_values, true_examples_are_s
 pub use Rattle.am_problem.proofs.Fitting.{derivable_terms_fit, results_are_tuples, operations_give_words}
 pub use Rattle.am_problem.proofs.Fitting.{rows_are_short}
 pub use Rattle.am_problem.proofs.GeneratorLaws.{made-problem, made-sound}
+pub use Rattle.am_problem.proofs.Different.{AreDifferent, different-append, different_transformers_are_few}

@@ -16,6 +16,7 @@ pub mod Indexing
 pub mod Cutting
 pub mod Inputs
 pub mod Fitting
+pub mod Different
 pub mod Laws
 pub mod MadeRules
 pub mod MadeDomains
