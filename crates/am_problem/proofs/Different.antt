@@ -1,5 +1,5 @@
 -- Lists of different things are no longer than a list that has them all.
-use Rattle.std.proofs.Common.{◌≡◌, ◌≢◌, ℕ, suc, ◌+◌, ◌<◌, ◌≤◌, ◌||◌, Bool, true, false, eqb, List, [], ◌∷◌, ◌++◌, length, map, get_or, refl, sym, ◌∙◌, ap, subst, inl, inr, arith}
+use Rattle.std.proofs.Common.{◌≡◌, ◌≢◌, ℕ, suc, ◌<◌, ◌≤◌, ◌||◌, Bool, true, false, eqb, List, [], ◌∷◌, ◌++◌, length, map, get_or, refl, sym, ◌∙◌, ap, arith}
 use Rattle.std.specs.List.{All, AllByRecursion, Contains, IsDistinct, list_any}
 use Rattle.std.proofs.lemmas.Bool.{eqb-true}
 use Rattle.std.proofs.lemmas.List.{get_or_default}
@@ -21,9 +21,10 @@ AreDifferent (x ∷ xs) = All (λ y. x ≢ y) xs × AreDifferent xs
 -- lists of different things that share nothing, put together
 pub different-append : {A : Type 0} (xs ys : List A) → AreDifferent xs → AreDifferent ys → All (λ x. All (λ y. x ≢ y) ys) xs → AreDifferent (xs ++ ys)
 different-append [] ys dx dy apart = dy
-different-append (x ∷ xs) ys dx dy apart =
-    (All-append (λ y. x ≢ y) xs ys dx.0 (All-head (λ z. All (λ y. z ≢ y) ys) x xs apart),
-     different-append xs ys dx.1 dy (All-tail (λ z. All (λ y. z ≢ y) ys) x xs apart))
+different-append (x ∷ xs) ys dx dy apart = (
+  All-append (λ y. x ≢ y) xs ys dx.0 (All-head (λ z. All (λ y. z ≢ y) ys) x xs apart),
+  different-append xs ys dx.1 dy (All-tail (λ z. All (λ y. z ≢ y) ys) x xs apart),
+)
 
 module _ {A : Type 0} (ys : List A) where
   -- the places at which they stand
@@ -57,9 +58,10 @@ module _ {A : Type 0} (ys : List A) where
   apart x here [] within differ = tt
   apart x here (z ∷ zs) within differ =
       let there : Contains ys z = All-head (Contains ys) z zs within in
-      let other : x ≢ z = All-head (λ y. x ≢ y) z zs differ in
-      (go (eqb here.0 there.0) (λ e. other (same_there x z here there (eqb-true here.0 there.0 e))),
-       apart x here zs (All-tail (Contains ys) z zs within) (All-tail (λ y. x ≢ y) z zs differ))
+      let other : x ≢ z = All-head (λ y. x ≢ y) z zs differ in (
+        go (eqb here.0 there.0) (λ e. other (same_there x z here there (eqb-true here.0 there.0 e))),
+        apart x here zs (All-tail (Contains ys) z zs within) (All-tail (λ y. x ≢ y) z zs differ),
+      )
     where
       go : (t : Bool) → (t ≡ true → ⊥) → t ≡ false
       go true other = absurd (other refl)
@@ -86,8 +88,9 @@ different_transformers_are_few p terms differ derive =
     let give = terms_of p.rules p.starts in
     let listed : All (Contains (map give tuples)) terms =
     All-weaker (AreDerivable p.rules p.starts p.depth) (Contains (map give tuples)) (λ t d.
-        let h = tuples_are_listed p.rules p.starts p.depth d.trees d.derive in
-        (h.0,
-        omega (arith, h.1, length-map tuples give),
-        get_or-map give tuples h.0 d.trees t h.1 ∙ ap give h.2 ∙ sym d.give)) terms derive in
+    let h = tuples_are_listed p.rules p.starts p.depth d.trees d.derive in (
+      h.0,
+      omega (arith, h.1, length-map tuples give),
+      get_or-map give tuples h.0 d.trees t h.1 ∙ ap give h.2 ∙ sym d.give,
+    )) terms derive in
     omega (arith, few (map give tuples) terms differ listed, length-map tuples give, tuples_are_counted p.rules p.starts p.depth)

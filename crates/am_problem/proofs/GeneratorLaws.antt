@@ -1,14 +1,14 @@
 -- The problem of each number is within all limits, and has a sound transformer.
-use Rattle.std.proofs.Common.{◌≡◌, ℕ, ◌+◌, ◌/◌, ◌%◌, ◌<◌, ◌≤◌, List, [], ◌∷◌, length, map, IsTrue}
+use Rattle.std.proofs.Common.{◌≡◌, ℕ, ◌+◌, ◌/◌, ◌%◌, ◌<◌, ◌≤◌, List, [], ◌∷◌, map}
 use Rattle.std.proofs.Common.{refl, sym, subst, ap, ◌∙◌, arith, lit≤}
 use Rattle.std.specs.List.{concat}
 use Rattle.std.proofs.Math.Nat.{mod-lt}
 use Rattle.std.proofs.lemmas.Bool.{and_from, eq-eqb}
 use Rattle.std.proofs.lemmas.List.FromFn.{length-range_with_len}
-use Rattle.am_bv.proofs.Laws.{fits-Field, fits-Node, nodes-Field, nodes-Node, val-Const, val-word, weight-Field}
+use Rattle.am_bv.proofs.Laws.{fits-Field, fits-Node, nodes-Field, nodes-Node, val-Const, weight-Field}
 use Rattle.am_bv.specs.Operators.{arity}
-use Rattle.am_bv.specs.Terms.{binary, fits, val, weight}
-use Rattle.am_bv.specs.Words.{AreWords, IsWidth}
+use Rattle.am_bv.specs.Terms.{binary, val, weight}
+use Rattle.am_bv.specs.Words.{IsWidth}
 use Rattle.am_bv.specs.declared.op.Op.{Op}
 use Rattle.am_bv.specs.declared.term.Term.TheVariants.{Const, Field}
 use Rattle.am_domain.specs.Question.{IsMember, IsSound}

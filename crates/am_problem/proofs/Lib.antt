@@ -17,7 +17,9 @@ pub mod Cutting
 pub mod Inputs
 pub mod Fitting
 pub mod Different
-pub mod Laws
 pub mod MadeRules
 pub mod MadeDomains
 pub mod GeneratorLaws
+pub mod Printed
+pub mod PrintingLaws
+pub mod Laws

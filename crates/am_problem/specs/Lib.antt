@@ -8,6 +8,7 @@ pub mod ExampleLaws
 pub mod Lines
 pub mod Grammar
 pub mod Texts
+pub mod Printing
 pub mod StoredLines
 pub mod StoredDraft
 pub mod Generator

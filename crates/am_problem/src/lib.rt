@@ -4,8 +4,8 @@
 //! abstract domain ([`Kind`]), a grammar of terms with a start for each field of the result, and budgets.
 //! What it asks is one definition, `question_of` in `specs/Problem.antt`. [`read_problem`] reads the text of
 //! one, and [`problem_at`] one that stands in a longer text: a [`Draft`] has what the lines say, and
-//! [`Draft::settle`] looks up the names and tests the limits. [`make_problem`] makes the problem of a
-//! number, for trials of many problems.
+//! [`Draft::settle`] looks up the names and tests the limits. [`print_problem`] writes the canonical text,
+//! and [`make_problem`] makes the problem of a number, for trials of many problems.
 //!
 //! A [`Transformer`] has a term for each field of the result. A [`Positive`] example says what a
 //! transformer's result has to have at some inputs, a [`Negative`] one what it may not have, and a
@@ -18,8 +18,10 @@
 //! text has, within the limits, or the first refusal: of a byte; then from the left of a token, by the
 //! grammar in `specs/Grammar.antt`; then of a name without a rule; then of the slots; then of the load. For
 //! each text exactly one of the two exists ([`texts_are_settled`]). [`Problem::load`] is the bound on the
-//! gates of the problem's formulas in `specs/Loads.antt`. [`make_problem`] answers exactly the problem that
-//! `specs/Generator.antt` has for the number; it is within all limits, and has a sound transformer.
+//! gates of the problem's formulas in `specs/Loads.antt`. [`print_problem`] appends exactly the lines of
+//! `specs/Printing.antt`, or where memory runs out a part of them from the beginning, and what was printed
+//! reads back as the problem ([`canonical_texts_are_read`]). [`make_problem`] answers exactly the problem
+//! that `specs/Generator.antt` has for the number; it is within all limits, and has a sound transformer.
 //!
 //! [`Problem::result`] is what a transformer answers, [`Problem::is_valid`], [`Problem::assumed`] and
 //! [`Problem::is_true`] are true exactly where inputs are abstract values, words meet the assumption and
@@ -37,6 +39,7 @@ mod kind;
 mod limits;
 mod numbering;
 mod parts;
+mod printing;
 mod problem;
 mod rows;
 mod rules;
@@ -49,6 +52,7 @@ pub use generator::{LAST_PROBLEM, make_problem};
 pub use kind::Kind;
 pub use limits::{MOST_CONFLICTS, MOST_INPUTS, MOST_LOAD, MOST_NODES, MOST_SLOTS, MOST_TURNS};
 pub use parts::{Name, Names};
+pub use printing::{canonical_texts_are_read, print_problem};
 pub use problem::Problem;
 pub use rows::{Inputs, ShortRow, WordRow};
 pub use text::{problem_at, read_problem, texts_are_settled};
@@ -57,5 +61,7 @@ pub use text::{problem_at, read_problem, texts_are_settled};
 mod examples_tests;
 #[cfg(test)]
 mod generator_tests;
+#[cfg(test)]
+mod printing_tests;
 #[cfg(test)]
 mod tests;

@@ -82,12 +82,14 @@ spaced_words (v ∷ w ∷ ws) are =
 
 -- and of their line
 pub line_words : (ws : Words) → AreTokens ws → words_of (line ws) ≡ ws
+unfolding line
 line_words ws are =
     words_of-append (spaced ws) (10 ∷ []) (inr refl)
     ∙ ap (λ (us : Words). us ++ words_of (10 ∷ [])) (spaced_words ws are) ∙ append-nil ws
 
 -- the words of lines are those of each line
 pub lines_words : (rows : List Words) → AllByRecursion AreTokens rows → words_of (lines rows) ≡ flat_map (λ ws. ws) rows
+unfolding line
 lines_words [] are = refl
 lines_words (ws ∷ rows) are =
     words_of-append (line ws) (lines rows) (inl (suffix_none (spaced ws) 10 refl))
@@ -114,6 +116,7 @@ spaced_allowed (v ∷ w ∷ ws) are =
     (spaced_allowed (w ∷ ws) are.1))
 
 lines_allowed : (rows : List Words) → AllByRecursion AreTokens rows → list_all is_allowed (lines rows) ≡ true
+unfolding line
 lines_allowed [] are = refl
 lines_allowed (ws ∷ rows) are =
     all-append is_allowed (line ws) (lines rows) (all-append is_allowed (spaced ws) (10 ∷ []) (spaced_allowed ws are.0)

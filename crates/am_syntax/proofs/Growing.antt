@@ -31,7 +31,7 @@ pub appends_err : {E : Type 0} (r : Result (Unit {0}) E) (e : E) (old new text :
 appends_err {E = E} r e old new text is grew = subst (λ (q : Result (Unit {0}) E). Appends q old new text) (sym is) grew
 
 -- the items of a list before, at and behind a place
-flat_map_at : {A : Type 0} (f : A → List ℕ) (xs : List A) (i : ℕ) (x : A) → i < length xs → x ≡ get_or xs i x →
+pub flat_map_at : {A : Type 0} (f : A → List ℕ) (xs : List A) (i : ℕ) (x : A) → i < length xs → x ≡ get_or xs i x →
     flat_map f xs ≡ flat_map f (take i xs) ++ (f x ++ flat_map f (drop (suc i) xs))
 flat_map_at f [] i x h at = absurd (omega arith)
 flat_map_at f (y ∷ xs) zero x h at = ap (λ z. f z ++ flat_map f xs) (sym at)

@@ -28,6 +28,8 @@ pub use Rattle.am_syntax.proofs.TextLaws.{text_found, text_read, text_settled, t
 -- what follows a word that opens nothing; words that stand apart: a word, those of a term, two rows of them
 pub use Rattle.am_syntax.proofs.SpacedLaws.{StandApart, after, spaced-word, word_apart, term_apart, spaced_apart}
 pub use Rattle.am_syntax.proofs.SpacedLaws.{both_apart}
+-- the text of each of a list behind a space, also behind an operator, where the words of each stand apart
+pub use Rattle.am_syntax.proofs.SpacedLaws.{EachApart, each_text, spaced_each, node_text, node_apart}
 -- the text of each kind of term
 pub use Rattle.am_syntax.proofs.SpacedLaws.{text-Const, text-Field, text-Node}
 -- a canonical text of tokens has these words, and no bad byte
@@ -39,3 +41,6 @@ pub use Rattle.am_syntax.proofs.CanonicalLaws.{all_tokens, printed_reads_back}
 pub use Rattle.am_syntax.proofs.WordTokens.{number_is_token, number_apart, name_is_token, name_apart}
 -- a text that grows toward what is to be written
 pub use Rattle.am_syntax.proofs.Growing.{toward_none, toward, toward_stopped, appends_err}
+-- what a row of calls appends, and what a loop over items
+pub use Rattle.am_syntax.proofs.Appending.{grew_first, grew_next, appends_last, appends_alone, appends_whole}
+pub use Rattle.am_syntax.proofs.Appending.{handed_on, appending, grew_item, wrote_item}

@@ -17,3 +17,5 @@ pub mod CanonicalLaws
 pub mod WordTokens
 pub mod Growing
 pub mod Laws
+pub mod Appending
+pub mod LineTexts

@@ -71,83 +71,94 @@ both_apart us vs one two = record {
 regrouped : (a b c : List ℕ) → (a ++ (b ++ codes ")")) ++ c ≡ a ++ (b ++ (codes ")" ++ c))
 regrouped a b c = append_assoc a (b ++ codes ")") c ∙ ap (λ (bs : List ℕ). a ++ bs) (append_assoc b (codes ")") c)
 
-module _ (letter : ℕ) where
-  abbrev args_text : List Term → List ℕ
-  args_text ts = flat_map (λ t. 32 ∷ term_text letter t) ts
+name_opens : (op : Op) → bytes_eq (op_name op) (codes "(") ≡ false
+name_opens op =
+    elim op as (λ o. bytes_eq (op_name o) (codes "(") ≡ false) [
+      | Not ↦ refl
+      | Neg ↦ refl
+      | And ↦ refl
+      | Or ↦ refl
+      | Xor ↦ refl
+      | Add ↦ refl
+      | Sub ↦ refl
+      | Mul ↦ refl
+      | Udiv ↦ refl
+      | Urem ↦ refl
+      | Shl ↦ refl
+      | Lshr ↦ refl
+      | Ashr ↦ refl
+      | Eq ↦ refl
+      | Ult ↦ refl
+      | Ule ↦ refl
+      | Slt ↦ refl
+      | Sle ↦ refl
+      | Umin ↦ refl
+      | Umax ↦ refl
+      | Smin ↦ refl
+      | Smax ↦ refl
+      | Ite ↦ refl
+    ]
 
-  abbrev tail_words : List Term → Words
-  tail_words ts = flat_map (term_words letter) ts ++ codes ")" ∷ []
+-- the text of each of a list, behind a space, where each is spelled by words
+module _ {A : Type 0} (words : A → Words) where
+  abbrev pub each_text : List A → List ℕ
+  each_text xs = flat_map (λ x. 32 ∷ spaced (words x)) xs
 
-  abbrev Apart : Term → Type 0
-  Apart t = StandApart (term_words letter t)
+  abbrev pub EachApart : List A → Type 0
+  EachApart xs = AllByRecursion (λ x. StandApart (words x)) xs
 
-  after_args : (ts : List Term) → AllByRecursion Apart ts →
-      (ws : Words) → after (tail_words ts ++ ws) ≡ args_text ts ++ (codes ")" ++ after ws)
-  after_args [] h ws = spaced-word (codes ")") ws refl
-  after_args (t ∷ ts) h ws =
-      let rest = tail_words ts ++ ws in
-      let joined : tail_words (t ∷ ts) ++ ws ≡ term_words letter t ++ rest =
-      ap (λ (us : Words). us ++ ws) (append_assoc (term_words letter t) (flat_map (term_words letter) ts)
-      (codes ")" ∷ [])) ∙ append_assoc (term_words letter t) (tail_words ts) ws in
-      ap after joined
+  after_each : (xs : List A) → EachApart xs → (ws : Words) →
+      after (flat_map words xs ++ ws) ≡ each_text xs ++ after ws
+  after_each [] h ws = refl
+  after_each (x ∷ xs) h ws =
+      let rest = flat_map words xs ++ ws in
+      ap after (append_assoc (words x) (flat_map words xs) ws)
       ∙ h.0.behind rest
       ∙ ap (λ (bs : List ℕ). 32 ∷ bs) (h.0.before rest
-      ∙ ap (λ (bs : List ℕ). term_text letter t ++ bs) (after_args ts h.1 ws)
-      ∙ sym (append_assoc (term_text letter t) (args_text ts) (codes ")" ++ after ws)))
+      ∙ ap (λ (bs : List ℕ). spaced (words x) ++ bs) (after_each xs h.1 ws)
+      ∙ sym (append_assoc (spaced (words x)) (each_text xs) (after ws)))
 
-  -- an operator and what stands behind it
-  node_then : (op : Op) (ts : List Term) → AllByRecursion Apart ts →
-      bytes_eq (op_name op) (codes "(") ≡ false → (ws : Words) →
-      spaced (codes "(" ∷ op_name op ∷ (tail_words ts ++ ws)) ≡
-      codes "(" ++ (op_name op ++ (args_text ts ++ (codes ")" ++ after ws)))
-  node_then op ts h name ws =
-      ap (λ (bs : List ℕ). codes "(" ++ bs) (spaced-word (op_name op) (tail_words ts ++ ws) name
-      ∙ ap (λ (bs : List ℕ). op_name op ++ bs) (after_args ts h ws))
+  -- each of a list, behind words that stand apart
+  pub spaced_each : (us : Words) (xs : List A) → StandApart us → EachApart xs →
+      spaced (us ++ flat_map words xs) ≡ spaced us ++ each_text xs
+  spaced_each us xs one each =
+      let alone : after (flat_map words xs) ≡ each_text xs =
+      ap after (sym (append-nil (flat_map words xs))) ∙ after_each xs each [] ∙ append-nil (each_text xs) in
+      one.before (flat_map words xs) ∙ ap (λ (bs : List ℕ). spaced us ++ bs) alone
 
-  -- the text of an operator at terms
-  node_text : (op : Op) (ts : List Term) → AllByRecursion Apart ts → bytes_eq (op_name op) (codes "(") ≡ false →
-      spaced (codes "(" ∷ op_name op ∷ tail_words ts) ≡ codes "(" ++ (op_name op ++ (args_text ts ++ codes ")"))
-  node_text op ts h name =
-      ap (λ (us : Words). spaced (codes "(" ∷ op_name op ∷ us)) (sym (append-nil (tail_words ts)))
-      ∙ node_then op ts h name []
+  abbrev tail_words : List A → Words
+  tail_words xs = flat_map words xs ++ codes ")" ∷ []
 
-  node_apart : (op : Op) (ts : List Term) → AllByRecursion Apart ts →
-      bytes_eq (op_name op) (codes "(") ≡ false → StandApart (codes "(" ∷ op_name op ∷ tail_words ts)
-  node_apart op ts h name = record {
+  -- an operator at each of a list, and what stands behind it
+  node_then : (op : Op) (xs : List A) → EachApart xs → (ws : Words) →
+      spaced (codes "(" ∷ op_name op ∷ (tail_words xs ++ ws)) ≡
+      codes "(" ++ (op_name op ++ (each_text xs ++ (codes ")" ++ after ws)))
+  node_then op xs each ws =
+      let tail =
+      ap after (append_assoc (flat_map words xs) (codes ")" ∷ []) ws)
+      ∙ after_each xs each (codes ")" ∷ ws)
+      ∙ ap (λ (bs : List ℕ). each_text xs ++ bs) (spaced-word (codes ")") ws refl) in
+      ap (λ (bs : List ℕ). codes "(" ++ bs) (spaced-word (op_name op) (tail_words xs ++ ws) (name_opens op)
+      ∙ ap (λ (bs : List ℕ). op_name op ++ bs) tail)
+
+  -- the text of an operator at each of a list
+  pub node_text : (op : Op) (xs : List A) → EachApart xs →
+      spaced (codes "(" ∷ op_name op ∷ (flat_map words xs ++ codes ")" ∷ [])) ≡
+      codes "(" ++ (op_name op ++ (each_text xs ++ codes ")"))
+  node_text op xs each =
+      ap (λ (us : Words). spaced (codes "(" ∷ op_name op ∷ us)) (sym (append-nil (tail_words xs)))
+      ∙ node_then op xs each []
+
+  -- its words stand apart
+  pub node_apart : (op : Op) (xs : List A) → EachApart xs →
+      StandApart (codes "(" ∷ op_name op ∷ (flat_map words xs ++ codes ")" ∷ []))
+  node_apart op xs each = record {
     before = λ ws.
-        node_then op ts h name ws
-        ∙ ap (λ (bs : List ℕ). codes "(" ++ bs) (sym (regrouped (op_name op) (args_text ts) (after ws)))
-        ∙ ap (λ (bs : List ℕ). bs ++ after ws) (sym (node_text op ts h name));
+        node_then op xs each ws
+        ∙ ap (λ (bs : List ℕ). codes "(" ++ bs) (sym (regrouped (op_name op) (each_text xs) (after ws)))
+        ∙ ap (λ (bs : List ℕ). bs ++ after ws) (sym (node_text op xs each));
     behind = λ ws. refl;
   }
-
-  name_opens : (op : Op) → bytes_eq (op_name op) (codes "(") ≡ false
-  name_opens op =
-      elim op as (λ o. bytes_eq (op_name o) (codes "(") ≡ false) [
-        | Not ↦ refl
-        | Neg ↦ refl
-        | And ↦ refl
-        | Or ↦ refl
-        | Xor ↦ refl
-        | Add ↦ refl
-        | Sub ↦ refl
-        | Mul ↦ refl
-        | Udiv ↦ refl
-        | Urem ↦ refl
-        | Shl ↦ refl
-        | Lshr ↦ refl
-        | Ashr ↦ refl
-        | Eq ↦ refl
-        | Ult ↦ refl
-        | Ule ↦ refl
-        | Slt ↦ refl
-        | Sle ↦ refl
-        | Umin ↦ refl
-        | Umax ↦ refl
-        | Smin ↦ refl
-        | Smax ↦ refl
-        | Ite ↦ refl
-      ]
 
 -- each of a list, where a test of all of it says what each needs
 pub each_so : {A : Type 0} (P : A → Type 0) (test : A → Bool) (xs : List A) →
@@ -159,6 +170,9 @@ each_so P test (x ∷ xs) h all = let parts = and_parts _ _ all in (h.0 parts.0,
 module _ (l : Letter) (scope : Scope) (is : IsScope scope) where
   abbrev code : ℕ
   code = letter_code l
+
+  abbrev Apart : Term → Type 0
+  Apart t = StandApart (term_words code t)
 
   abbrev Fits : Term → Type 0
   Fits t = fits scope.width scope.variables t ≡ true
@@ -178,7 +192,7 @@ module _ (l : Letter) (scope : Scope) (is : IsScope scope) where
 
   -- the words of a term stand apart
   pub term_apart : (t : Term) → Fits t → StandApart (term_words code t)
-  term_apart t = by_induction (λ t. Fits t → Apart code t) (record {
+  term_apart t = by_induction (λ t. Fits t → Apart t) (record {
     const = λ c fit.
         let digits = const_digits c fit in
         subst StandApart (sym (words-Const code c)) (word_apart (decimal c)
@@ -188,20 +202,20 @@ module _ (l : Letter) (scope : Scope) (is : IsScope scope) where
         (word_apart (code ∷ decimal i) (letter_opens l (decimal i)) (letter_closes l (decimal i)));
     node =
         λ op ts h fit. subst StandApart (sym (words-Node code op ts))
-        (node_apart code op ts (each_so (Apart code) (fits scope.width scope.variables) ts h (children_fit op ts fit))
-        (name_opens code op));
+        (node_apart (term_words code) op ts
+        (each_so Apart (fits scope.width scope.variables) ts h (children_fit op ts fit)));
   }) t
 
-  all_apart : (ts : List Term) → list_all (fits scope.width scope.variables) ts ≡ true → AllByRecursion (Apart code) ts
+  all_apart : (ts : List Term) → list_all (fits scope.width scope.variables) ts ≡ true → AllByRecursion Apart ts
   all_apart [] h = tt
   all_apart (t ∷ ts) h = let parts = and_parts _ _ h in (term_apart t parts.0, all_apart ts parts.1)
 
   -- the text of an operator at terms
   pub text-Node : (op : Op) (ts : List Term) → Fits (Node op ts) →
-      term_text code (Node op ts) ≡ codes "(" ++ (op_name op ++ (flat_map (λ t. 32 ∷ term_text code t) ts ++ codes ")"))
+      term_text code (Node op ts) ≡
+      codes "(" ++ (op_name op ++ (flat_map (λ t. 32 ∷ term_text code t) ts ++ codes ")"))
   text-Node op ts fit =
-      ap spaced (words-Node code op ts) ∙ node_text code op ts (all_apart ts (children_fit op ts fit))
-      (name_opens code op)
+      ap spaced (words-Node code op ts) ∙ node_text (term_words code) op ts (all_apart ts (children_fit op ts fit))
 
 -- the text of a constant, and of a variable
 pub text-Const : (letter c : ℕ) → term_text letter (Const c) ≡ decimal c

@@ -17,7 +17,7 @@ spaced (v ∷ []) = v
 spaced (v ∷ w ∷ ws) = v ++ (gap v w ++ spaced (w ∷ ws))
 
 -- a line of words
-abbrev pub line : Words → List ℕ
+unfoldable pub line : Words → List ℕ
 line ws = spaced ws ++ 10 ∷ []
 
 -- one line for each row of words

@@ -5,6 +5,7 @@ pub mod Pieces
 pub mod Exact
 pub mod Spelling
 pub mod Canonical
+pub mod Lines
 pub mod Terms
 pub mod Texts
 pub mod Theorems

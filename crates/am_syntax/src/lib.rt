@@ -22,7 +22,8 @@
 //! ```
 //!
 //! [`read_number`], [`read_name`] and [`read_term`] answer refusals with their places, and
-//! [`print_term`] writes what [`read_term`] reads.
+//! [`print_term`] writes what [`read_term`] reads. [`print_line`] writes a line of a key word and of words,
+//! numbers and terms, and [`print_word`] one more word on a line.
 //!
 //! # What is proved
 //!
@@ -35,13 +36,15 @@
 //! or term that is spelled, or the first refusal with the place of its token; a text of a term has a
 //! value or a first refusal, and not both. [`print_term`] appends the term's canonical text, and
 //! after want of memory the writer holds its old text and a part of the new; a printed term has the
-//! term's words, and reads back. The depth of the calls of [`read_term`] is at most the nesting
-//! allowed, which is tested before going down.
+//! term's words, and reads back. [`print_line`] and [`print_word`] append a line and a word in the same
+//! way. The depth of the calls of [`read_term`] is at most the nesting allowed, which is tested before
+//! going down.
 #![tactic(auto)]
 
 mod item;
 mod judge;
 mod limits;
+mod lines;
 mod names;
 mod numerals;
 mod print;
@@ -55,6 +58,7 @@ mod words;
 pub use item::{Item, Listed, read_list, read_times};
 pub use judge::{Judge, take};
 pub use limits::{Letter, TermLimits};
+pub use lines::{Entry, print_line, print_word};
 pub use names::{Operator, no_name, op_name, op_named, take_operator};
 pub use numerals::{is_digits, is_name};
 pub use print::print_term;

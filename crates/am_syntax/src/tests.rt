@@ -332,6 +332,15 @@ fn names_are_read_up_to_an_end(rt: HostRuntime) -> Result<(), Fail> {
 }
 
 #[test]
+fn lines_have_one_space_between_words(rt: HostRuntime) -> Result<(), Fail> {
+    let mut out = Writer::new(rt.alloc());
+    print_line(&mut out, b"edge", &[Entry::Word(b"set"), Entry::Number(10)])?;
+    print_word(&mut out, b"more")?;
+    assert_eq!(rt; out.finish().as_slice(), b"edge set 10\n more".as_slice());
+    Ok(())
+}
+
+#[test]
 fn errors_have_texts(rt: HostRuntime) -> Result<(), Fail> {
     assert_eq!(rt;
         format!(in rt.alloc(); "{}", ReadError::Refused(Refusal::Long))?.as_str(),

@@ -1,0 +1,27 @@
+-- What stands on a line behind its key word.
+use Rattle.std.specs.Prelude.{◌<◌, ◌^◌, Bool, ◌||◌, not, List, [], ◌∷◌, bytes_eq, codes, decimal, flat_map, IsTrue}
+use Rattle.std.specs.List.{AllByRecursion}
+use Rattle.am_syntax.specs.declared.lines.Entry.{Entry}
+use Rattle.am_syntax.specs.declared.lines.Entry.TheVariants.{Word as word, Number, Term}
+use Rattle.am_syntax.specs.Readers.{Word, Words}
+use Rattle.am_syntax.specs.Spelling.{FitsSomewhere, letter_code, term_words}
+
+-- no parenthesis
+abbrev pub is_apart : Word → Bool
+is_apart v = not (bytes_eq v (codes "(") || bytes_eq v (codes ")"))
+
+abbrev pub IsEntry : Entry → Type 0
+IsEntry (word v) = IsTrue (is_apart v.now)
+IsEntry (Number n) = n < 2 ^ 64
+IsEntry (Term letter t) = FitsSomewhere t.now
+
+abbrev pub AreEntries : List Entry → Type 0
+AreEntries entries = AllByRecursion IsEntry entries
+
+abbrev pub entry_words : Entry → Words
+entry_words (word v) = v.now ∷ []
+entry_words (Number n) = decimal n ∷ []
+entry_words (Term letter t) = term_words (letter_code letter) t.now
+
+abbrev pub words_of_entries : List Entry → Words
+words_of_entries entries = flat_map entry_words entries
