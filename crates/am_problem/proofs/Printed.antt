@@ -191,6 +191,7 @@ row_at p is names rules i v u qs ps own_names own_rules below same_name called s
 
 -- ---- the whole
 
+-- the text of a problem, in the parts that are printed one after another
 pub problem_parts : (p : Problem) → problem_text p ≡
     lines (header_rows (named p).header) ++
     (lines (domain_rows (named p)) ++

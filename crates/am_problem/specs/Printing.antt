@@ -12,6 +12,7 @@ use Rattle.am_problem.specs.Lines.{Budgets, Header, Lines, Production, Rule, lea
 use Rattle.am_problem.specs.Problem.{Problem}
 use Rattle.am_problem.specs.Texts.{Reads, named}
 
+-- the line of the operation
 abbrev pub operation_row : Header → Words
 operation_row h = codes "operation" ∷ decimal h.inputs ∷ term_words (letter_code X) h.operation
 
@@ -20,6 +21,7 @@ abbrev pub assume_rows : Option Term → List Words
 assume_rows None = []
 assume_rows (Some t) = (codes "assume" ∷ term_words (letter_code X) t) ∷ []
 
+-- the lines up to that of the assumption
 abbrev pub header_rows : Header → List Words
 header_rows h =
     (codes "amurth" ∷ decimal 1 ∷ []) ∷
@@ -27,9 +29,11 @@ header_rows h =
     operation_row h ∷
     assume_rows h.assume
 
+-- the lines of the domain and of the starts
 abbrev pub domain_rows : Lines → List Words
 domain_rows l = (codes "domain" ∷ kind_name l.kind ∷ []) ∷ (codes "start" ∷ l.starts) ∷ []
 
+-- the lines of what may be spent
 abbrev pub budget_rows : Budgets → List Words
 budget_rows b =
     (codes "depth" ∷ decimal b.depth ∷ []) ∷
@@ -37,13 +41,16 @@ budget_rows b =
     (codes "conflicts" ∷ decimal b.conflicts ∷ []) ∷
     []
 
+-- a leaf, or an operator and its nonterminals
 abbrev pub production_words : Production → Words
 production_words (leaf t) = term_words (letter_code F) t
 production_words (node op names) = codes "(" ∷ op_name op ∷ (names ++ codes ")" ∷ [])
 
+-- the line of a rule
 abbrev pub rule_row : Rule → Words
 rule_row r = codes "rule" ∷ r.name ∷ flat_map production_words r.productions
 
+-- all lines, in order
 abbrev pub problem_rows : Lines → List Words
 problem_rows l =
     header_rows l.header ++

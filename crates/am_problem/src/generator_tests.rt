@@ -1,112 +1,68 @@
-//! Made problems: their numbers and their operators, as an independent reference has them.
+//! What made problems say, as an independent reference has it.
 
-use crate::{Kind, make_problem};
-use am_bv::Op;
+use crate::{LAST_PROBLEM, Problem, make_problem};
+use am_bv::Term;
 use am_tree::{Production, Productions};
 use std::alloc::{AllocError, Global};
 use std::test::Fail;
 
-/// A number, and of its problem the width, the slots, the tuples of trees, the load and the operators.
-struct Case {
-    number: u32,
-    width: u32,
-    kind: Kind,
-    slots: u64,
-    tuples: u128,
-    load: u64,
-    operators: &'static [Op],
-}
-
-static CASES: [Case; 5] = [
-    Case {
-        number: 6,
-        width: 8,
-        kind: Kind::UInterval,
-        slots: 6,
-        tuples: 5_776,
-        load: 126_072,
-        operators: &[Op::And, Op::Or, Op::Add, Op::And, Op::Or, Op::Add, Op::Umin],
-    },
-    Case {
-        number: 426,
-        width: 8,
-        kind: Kind::UInterval,
-        slots: 14,
-        tuples: 7_295_401,
-        load: 223_032,
-        operators: &[Op::And, Op::Or, Op::Add, Op::And, Op::Or, Op::Add, Op::Umin],
-    },
-    Case {
-        number: 252_340,
-        width: 6,
-        kind: Kind::Parity,
-        slots: 3,
-        tuples: 28,
-        load: 88_512,
-        operators: &[Op::Sub, Op::Umax, Op::Smin, Op::Umin],
-    },
-    Case {
-        number: 653_283,
-        width: 3,
-        kind: Kind::SInterval,
-        slots: 14,
-        tuples: 7_295_401,
-        load: 84_873,
-        operators: &[
-            Op::Or,
-            Op::Xor,
-            Op::Smin,
-            Op::Or,
-            Op::Xor,
-            Op::Smin,
-            Op::Umax,
-        ],
-    },
-    Case {
-        number: 999_999,
-        width: 2,
-        kind: Kind::KnownBits,
-        slots: 6,
-        tuples: 5_776,
-        load: 37_192,
-        operators: &[
-            Op::Umax,
-            Op::Umin,
-            Op::Umin,
-            Op::Umax,
-            Op::Umin,
-            Op::Umin,
-            Op::Smin,
-        ],
-    },
-];
+/// Numbers, and what their problems say.
+static PROBLEMS: &str = "\
+6 = 8 UInterval Add 2 6 5776 126072 And Or Add And Or Add Umin
+426 = 8 UInterval Add 3 14 7295401 223032 And Or Add And Or Add Umin
+252340 = 6 Parity Lshr 2 3 28 88512 Sub Umax Smin Umin
+653283 = 3 SInterval Mul 3 14 7295401 84873 Or Xor Smin Or Xor Smin Umax
+999999 = 2 KnownBits Urem 2 6 5776 37192 Umax Umin Umin Umax Umin Umin Smin";
 
 /// The operators of all productions, in order.
-fn operators(alloc: Global, rules: &[Productions]) -> Result<Vec<Op>, AllocError> {
-    let mut operators = Vec::new(alloc);
+fn operators(alloc: Global, rules: &[Productions]) -> Result<String, AllocError> {
+    let mut operators = String::new(alloc);
     for productions in rules {
         for production in productions.as_slice() {
             if let Production::Node(op, _) = production {
-                operators.push(*op)?;
+                operators.push_str(format!(in alloc; " {op:?}")?.as_str())?;
             }
         }
     }
     Ok(operators)
 }
 
+/// The operator of a term.
+fn operator(alloc: Global, term: &Term) -> Result<String, AllocError> {
+    match term {
+        Term::Node(op, _) => format!(in alloc; "{op:?}"),
+        Term::Const(_) | Term::Field(_) => Ok(String::new(alloc)),
+    }
+}
+
+/// The width, the domain, the operation, the depth, the slots, the tuples of trees, the load, and the
+/// operators of the grammar.
+fn said(alloc: Global, problem: &Problem) -> Result<String, AllocError> {
+    let grammar = problem.grammar();
+    let width = problem.width().bits();
+    let kind = problem.kind();
+    let operation = operator(alloc, problem.operation())?;
+    let depth = grammar.depth;
+    let slots = grammar.slots();
+    let tuples = grammar.count().unwrap_or(0);
+    let load = problem.load();
+    let operators = operators(alloc, grammar.rules.as_slice())?;
+    format!(in alloc; "{width} {kind:?} {operation} {depth} {slots} {tuples} {load}{operators}")
+}
+
+/// What the problem of a number says.
+fn said_of(alloc: Global, number: &str) -> Result<String, Fail> {
+    let n: u32 = number.parse()?;
+    let problem = make_problem(alloc, n.min(LAST_PROBLEM))?;
+    Ok(said(alloc, &problem)?)
+}
+
 #[test]
 fn numbers_have_their_problems(rt: HostRuntime) -> Result<(), Fail> {
-    let alloc = rt.alloc();
-    for case in &CASES {
-        let problem = make_problem(alloc, case.number)?;
-        let grammar = problem.grammar();
-        assert_eq!(rt; problem.width().bits(), case.width);
-        assert_eq!(rt; problem.kind(), case.kind);
-        assert_eq!(rt; grammar.slots(), case.slots);
-        assert_eq!(rt; grammar.count(), Some(case.tuples));
-        assert_eq!(rt; problem.load(), case.load);
-        let operators = operators(alloc, grammar.rules.as_slice())?;
-        assert_eq!(rt; operators.as_slice(), case.operators);
+    for line in PROBLEMS.lines() {
+        let (number, expected) = line.split_once(" = ").ok_or("no problem")?;
+        let said = said_of(rt.alloc(), number)?;
+        assert_eq!(rt; said.as_str(), expected, "{number}");
     }
     Ok(())
 }

@@ -49,6 +49,7 @@ pub handed_on : {E : Type 0} (Q : E → Type 0) (r : Result (Unit {0}) E) (old n
 handed_on Q (Ok u) old new text is grew = absurd is
 handed_on Q (Err e) old new text is grew = grew
 
+-- all of these, for a row of calls
 pub ruleset appending = (appends_last, appends_alone, appends_whole, handed_on, grew_next, grew_first)
 
 -- ---- loops that append the text of each item

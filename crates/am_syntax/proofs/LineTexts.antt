@@ -16,7 +16,7 @@ neither false true h = absurd cc
 neither false false h = (refl, refl)
 
 -- a word that is no parenthesis stands apart
-pub key_apart : (v : Word) → IsTrue (is_apart v) → StandApart (v ∷ [])
+key_apart : (v : Word) → IsTrue (is_apart v) → StandApart (v ∷ [])
 key_apart v h = let parts = neither (bytes_eq v (codes "(")) (bytes_eq v (codes ")")) h in word_apart v parts.0 parts.1
 
 entry_apart : (e : Entry) → IsEntry e → StandApart (entry_words e)

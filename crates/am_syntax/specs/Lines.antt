@@ -1,4 +1,4 @@
--- What stands on a line behind its key word.
+-- What stands on a printed line behind its key word: words, numbers and terms.
 use Rattle.std.specs.Prelude.{◌<◌, ◌^◌, Bool, ◌||◌, not, List, [], ◌∷◌, bytes_eq, codes, decimal, flat_map, IsTrue}
 use Rattle.std.specs.List.{AllByRecursion}
 use Rattle.am_syntax.specs.declared.lines.Entry.{Entry}
@@ -10,6 +10,7 @@ use Rattle.am_syntax.specs.Spelling.{FitsSomewhere, letter_code, term_words}
 abbrev pub is_apart : Word → Bool
 is_apart v = not (bytes_eq v (codes "(") || bytes_eq v (codes ")"))
 
+-- a word that is no parenthesis, a number of 64 bits, or a term that fits somewhere
 abbrev pub IsEntry : Entry → Type 0
 IsEntry (word v) = IsTrue (is_apart v.now)
 IsEntry (Number n) = n < 2 ^ 64
@@ -18,10 +19,12 @@ IsEntry (Term letter t) = FitsSomewhere t.now
 abbrev pub AreEntries : List Entry → Type 0
 AreEntries entries = AllByRecursion IsEntry entries
 
+-- the words of an entry
 abbrev pub entry_words : Entry → Words
 entry_words (word v) = v.now ∷ []
 entry_words (Number n) = decimal n ∷ []
 entry_words (Term letter t) = term_words (letter_code letter) t.now
 
+-- the words of all entries, in order
 abbrev pub words_of_entries : List Entry → Words
 words_of_entries entries = flat_map entry_words entries

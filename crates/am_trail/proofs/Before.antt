@@ -36,7 +36,8 @@ module _ (a : List ℕ) where
   -- of two variables, one doesn't come before the other
   pub before_one : (v w : ℕ) → comes_before a v w ≡ true → comes_before a w v ≡ false
   unfolding test at
-  before_one v w e = let h = passes (at v) (at w) v w e in fails_by (at w) (at v) w v h.0 (λ s. omega (arith, h.1 (sym s)))
+  before_one v w e = let h = passes (at v) (at w) v w e in
+      fails_by (at w) (at v) w v h.0 (λ s. omega (arith, h.1 (sym s)))
 
   -- what comes after a variable that comes after another one comes after that one
   pub after_after : (v w x : ℕ) → comes_before a v w ≡ false → comes_before a w x ≡ false → comes_before a v x ≡ false
@@ -52,7 +53,8 @@ module _ (a : List ℕ) where
   -- of two different variables, one comes before the other
   pub before_other : (v w : ℕ) → comes_before a v w ≡ false → w ≢ v → comes_before a w v ≡ true
   unfolding test at
-  before_other v w e ne = let h = fails (at v) (at w) v w e in passes_by (at w) (at v) w v h.0 (λ s. omega (arith, h.1 (sym s)))
+  before_other v w e ne = let h = fails (at v) (at w) v w e in
+      passes_by (at w) (at v) w v h.0 (λ s. omega (arith, h.1 (sym s)))
 
   -- of variables that are as active, the one with the smaller number comes first
   pub after_same : (v w : ℕ) → get_or a v 0 ≡ get_or a w 0 → w ≤ v → comes_before a v w ≡ false
@@ -60,8 +62,10 @@ module _ (a : List ℕ) where
   after_same v w e le = fails_by (at v) (at w) v w (omega arith) (λ s. le)
 
 -- a variable stays behind one that became more active
-pub after_raised : (a b : List ℕ) (v w : ℕ) → comes_before a v w ≡ false → get_or b v 0 ≡ get_or a v 0 → get_or a w 0 ≤ get_or b w 0 → comes_before b v w ≡ false
+pub after_raised : (a b : List ℕ) (v w : ℕ) → comes_before a v w ≡ false → get_or b v 0 ≡ get_or a v 0
+    → get_or a w 0 ≤ get_or b w 0 → comes_before b v w ≡ false
 unfolding test
 after_raised a b v w e same more =
     let h = fails (get_or a v 0) (get_or a w 0) v w e in
-    fails_by (get_or b v 0) (get_or b w 0) v w (omega (arith, h.0)) (λ s. let one : get_or a v 0 ≡ get_or a w 0 = omega (arith, h.0) in h.1 one)
+    fails_by (get_or b v 0) (get_or b w 0) v w (omega (arith, h.0)) (λ s. let one : get_or a v 0 ≡ get_or a w 0 =
+    omega (arith, h.0) in h.1 one)

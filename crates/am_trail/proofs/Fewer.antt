@@ -1,5 +1,6 @@
 -- Taking a variable leaves fewer held ones.
-use Rattle.std.proofs.Common.{ℕ, ◌≡◌, ◌≢◌, ◌<◌, ◌≤◌, Bool, true, false, eqb, List, ◌∷◌, All, length, refl, sym, ◌∙◌, inl, inr, arith}
+use Rattle.std.proofs.Common.{ℕ, ◌≡◌, ◌≢◌, ◌<◌, ◌≤◌, Bool, true, false, eqb, List, ◌∷◌, All, length, refl, sym, ◌∙◌}
+use Rattle.std.proofs.Common.{inl, inr, arith}
 use Rattle.std.specs.Prelude.{Contains}
 use Rattle.std.specs.Bool.{Decides}
 use Rattle.std.specs.Cmp.{IsEquivalence}
@@ -31,17 +32,24 @@ equal_numbers = record {
 few_numbers : (xs ys : List ℕ) → AllPairs (λ c d. c ≢ d) xs → All (Contains ys) xs → length xs ≤ length ys
 few_numbers xs ys apart within =
     length-le_from_is_member equal_numbers xs ys (IsDistinct-from_AllPairs Decides-eqb xs apart)
-    (λ q h. (is_member-Decides Decides-eqb ys q).1 (All-contains (Contains ys) xs q within ((is_member-Decides Decides-eqb xs q).0 h)))
+    (λ q h. (is_member-Decides Decides-eqb ys q).1
+    (All-contains (Contains ys) xs q within ((is_member-Decides Decides-eqb xs q).0 h)))
 
 -- taking a variable leaves fewer held ones
-pub shorter_held : (v : ℕ) (old new : Ranked) → HoldsAllBut v old new → IsStrictlyIncreasing new.held → Contains old.held v → length new.held < length old.held
+pub shorter_held : (v : ℕ) (old new : Ranked) → HoldsAllBut v old new → IsStrictlyIncreasing new.held
+    → Contains old.held v → length new.held < length old.held
 shorter_held v old new but rises there =
-    let apart : AllPairs (λ c d. c ≢ d) new.held = (λ i j d lt inside e. let less = AllPairs-from_increasing new.held rises i j d lt inside in omega arith) in
-    let first : All (λ w. v ≢ w) new.held = All-weaker (Contains new.held) (λ w. v ≢ w) (λ w h e. ((but.held w).0 h).1 (sym e)) new.held (All-contains_itself new.held) in
-    let few = few_numbers (v ∷ new.held) old.held (AllPairs-cons (λ c d. c ≢ d) v new.held first apart) (λ k d lt. within k d lt) in
+    let apart : AllPairs (λ c d. c ≢ d) new.held =
+    (λ i j d lt inside e. let less = AllPairs-from_increasing new.held rises i j d lt inside in omega arith) in
+    let first : All (λ w. v ≢ w) new.held =
+    All-weaker (Contains new.held) (λ w. v ≢ w) (λ w h e. ((but.held w).0 h).1 (sym e)) new.held
+    (All-contains_itself new.held) in
+    let few = few_numbers (v ∷ new.held) old.held (AllPairs-cons (λ c d. c ≢ d) v new.held first apart)
+    (λ k d lt. within k d lt) in
     omega arith where
       within : All (Contains old.held) (v ∷ new.held)
-      within = All-weaker (Contains (v ∷ new.held)) (Contains old.held) (λ w h. elim (Contains-cons_cases v new.held w h) [
-        | inl e ↦ rw (← e) there
-        | inr t ↦ ((but.held w).0 t).0
-      ]) (v ∷ new.held) (All-contains_itself (v ∷ new.held))
+      within = All-weaker (Contains (v ∷ new.held)) (Contains old.held)
+          (λ w h. elim (Contains-cons_cases v new.held w h) [
+            | inl e ↦ rw (← e) there
+            | inr t ↦ ((but.held w).0 t).0
+          ]) (v ∷ new.held) (All-contains_itself (v ∷ new.held))

@@ -1,4 +1,5 @@
 pub mod Placing
+pub mod Valuing
 pub mod Entries
 pub mod Leading
 pub mod Before

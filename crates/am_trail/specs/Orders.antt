@@ -1,5 +1,6 @@
 -- Variables in the order of their activities.
-use Rattle.std.specs.Prelude.{ℕ, ◌≡◌, ◌≢◌, ◌<◌, ◌^◌, ◌↔◌, ◌⊎◌, ◌==◌, ◌&&◌, ◌||◌, Bool, IsTrue, List, All, Contains, length, slice_index, nat_lt}
+use Rattle.std.specs.Prelude.{ℕ, ◌≡◌, ◌≢◌, ◌<◌, ◌^◌, ◌↔◌, ◌⊎◌, ◌==◌, ◌&&◌, ◌||◌, Bool, IsTrue, List, All, Contains}
+use Rattle.std.specs.Prelude.{length, slice_index, nat_lt}
 use Rattle.std.specs.List.Sorted.{IsStrictlyIncreasing}
 
 -- what an order shows: the activity of each variable, and the variables that it holds

@@ -1,5 +1,6 @@
 -- Trails: lists of decided and implied literals.
-use Rattle.std.specs.Prelude.{ℕ, ◌≡◌, ◌+◌, ◌≤◌, ◌<◌, ◌^◌, length, map, slice_index, List, [], ◌∷◌, None, filter, nat_le, IsSome, ◌⊎◌}
+use Rattle.std.specs.Prelude.{ℕ, ◌≡◌, ◌+◌, ◌≤◌, ◌<◌, ◌^◌, length, map, slice_index, List, [], ◌∷◌, None, filter, nat_le}
+use Rattle.std.specs.Prelude.{IsSome, ◌⊎◌}
 use Rattle.am_lit.specs.Literal.{variable_of}
 use Rattle.am_trail.specs.declared.entry.Entry.{Entry}
 

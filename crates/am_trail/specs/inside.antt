@@ -1,2 +1,3 @@
 pub mod Places
 pub mod Heaps
+pub mod Values

@@ -1,7 +1,8 @@
 //! An indexed binary heap: variables in a row, and for each variable its place in the row plus one,
 //! or 0 where it isn't there.
 
-ghost use Rattle.std.specs.Prelude.{◌≡◌, ℕ, ◌+◌, ◌*◌, ◌^◌, ◌<◌, ◌≤◌, [], ◌∷◌, ◌++◌, length, slice_index, slice_set, vec_len, vec_capacity, IfNone, IfSome};
+ghost use Rattle.std.specs.Prelude.{◌≡◌, ℕ, ◌+◌, ◌*◌, ◌^◌, ◌<◌, ◌≤◌, [], ◌∷◌, ◌++◌, length, slice_index, slice_set};
+ghost use Rattle.std.specs.Prelude.{vec_len, vec_capacity, IfNone, IfSome};
 ghost use Rattle.am_trail.specs.Orders.{comes_before};
 ghost use Rattle.am_trail.specs.inside.Places.{IsPlaced, placed_variables};
 ghost use Rattle.am_trail.specs.inside.Heaps.{IsFirstChild, IsHeapFrom, IsIndexedHeap, IsMoved, Rises, Sinks};

@@ -48,6 +48,7 @@ mod heap;
 mod order;
 mod places;
 mod trail;
+mod values;
 
 pub use entry::Entry;
 pub use order::Order;

@@ -1,6 +1,7 @@
 //! Variables in the order of their activities.
 
-ghost use Rattle.std.specs.Prelude.{◌≡◌, ◌+◌, ◌-◌, ◌/◌, ◌^◌, ◌<◌, [], length, map, min, replicate, slice_index, slice_set, IfOk, IfNone, IfSome};
+ghost use Rattle.std.specs.Prelude.{◌≡◌, ◌+◌, ◌-◌, ◌/◌, ◌^◌, ◌<◌, [], length, map, min, replicate, slice_index};
+ghost use Rattle.std.specs.Prelude.{slice_set, IfOk, IfNone, IfSome};
 ghost use Rattle.std.specs.List.{range_with_len};
 ghost use Rattle.am_trail.specs.Orders.{HoldsAllBut, HoldsAlso, IsFirst, IsRanked};
 

@@ -1,14 +1,15 @@
 //! The places of a trail's variables.
 
-ghost use Rattle.std.specs.Prelude.{◌≡◌, ◌+◌, ◌^◌, ◌<◌, ◌≤◌, [], ◌∷◌, ◌++◌, length, take, slice_index, vec_len, vec_capacity, Contains, IfNone, IfSome, if◌then◌else◌};
+ghost use Rattle.std.specs.Prelude.{◌≡◌, ◌+◌, ◌*◌, ◌^◌, ◌<◌, ◌≤◌, [], ◌∷◌, ◌++◌, length, take, slice_index, vec_len};
+ghost use Rattle.std.specs.Prelude.{vec_capacity, Contains, IfNone, IfSome, if◌then◌else◌};
 ghost use Rattle.am_lit.specs.Literal.{variable_of, opposite_of};
 ghost use Rattle.am_trail.specs.Trails.{literals};
 ghost use Rattle.am_trail.specs.inside.Places.{IsPlaced, variables};
-ghost use Rattle.am_lit.specs.UnitRow.{IsFree};
+ghost use Rattle.am_trail.specs.inside.Values.{AreValues};
 ghost use Rattle.am_trail.specs.declared.entry.Entry.{Entry};
 
 use crate::Entry;
-use am_lit::Lit;
+use crate::values::{Value, set_free};
 
 /// Appends an entry, for which there is room.
 fn push_within(entries: &mut Vec<Entry>, entry: Entry)
@@ -38,34 +39,30 @@ pub fn put(entries: &mut Vec<Entry>, places: &mut Vec<u32>, entry: Entry)
 }
 
 /// Takes back the entries from a place on.
-pub fn keep_first(entries: &mut Vec<Entry>, places: &mut Vec<u32>, len: usize)
+pub fn keep_first(
+    entries: &mut Vec<Entry>,
+    places: &mut Vec<u32>,
+    values: &mut Vec<Value>,
+    len: usize,
+)
     requires placed { IsPlaced (variables entries.old.items) places.old.items }
+    requires values { AreValues (literals entries.old.items) values.old.items }
+    requires both { vec_len values.old ≡ 2 * vec_len places.old }
     requires len { len ≤ vec_len entries.old }
     ensures entries { entries.new.items ≡ take len entries.old.items }
     ensures placed { IsPlaced (variables entries.new.items) places.new.items }
+    ensures values { AreValues (literals entries.new.items) values.new.items }
     ensures room { vec_capacity entries.old ≤ vec_capacity entries.new }
     ensures len { vec_len places.new ≡ vec_len places.old }
+    ensures both { vec_len values.new ≡ vec_len values.old }
 {
     while entries.len() > len {
         if let Some(entry) = entries.pop() {
             let variable = entry.literal.variable() as usize;
             places[variable] = 0;
+            set_free(values, entry.literal);
         }
     }
-}
-
-/// The value of a literal.
-pub fn value(entries: &[Entry], places: &[u32], l: Lit) -> Option<bool>
-    requires placed { IsPlaced (variables entries.now) places.now }
-    requires variable { variable_of l < length places.now }
-    ensures none { IfNone result (IsFree (literals entries.now) l) }
-    ensures some { IfSome result (λ b. Contains (literals entries.now) (if b then l else opposite_of l)) }
-{
-    let place = places[l.variable() as usize];
-    if place == 0 {
-        return None;
-    }
-    Some(entries[place as usize - 1].literal == l)
 }
 
 /// The entry of a variable that has a value.

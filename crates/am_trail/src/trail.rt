@@ -1,13 +1,15 @@
 //! The literals of an assignment, in the order in which they became true.
 
-ghost use Rattle.std.specs.Prelude.{map, ◌≡◌, ℕ, ◌+◌, ◌<◌, ◌≤◌, [], ◌∷◌, ◌++◌, length, take, min, IfOk, IfNone, IfSome, Some, None, Contains, IsTrue, ◌↔◌, if◌then◌else◌, slice_index, slice_index_or};
+ghost use Rattle.std.specs.Prelude.{map, ◌≡◌, ℕ, ◌+◌, ◌<◌, ◌≤◌, [], ◌∷◌, ◌++◌, length, take, min, IfOk, IfNone, IfSome};
+ghost use Rattle.std.specs.Prelude.{Some, None, Contains, IsTrue, ◌↔◌, if◌then◌else◌, slice_index, slice_index_or};
 ghost use Rattle.am_lit.specs.Literal.{variable_of, opposite_of};
 ghost use Rattle.am_lit.specs.UnitRow.{IsFree};
 ghost use Rattle.am_trail.specs.Trails.{Assigned, IsTrail, Leads, literals, upto};
 ghost use Rattle.am_trail.specs.declared.entry.Entry.{Entry};
 
 use crate::Entry;
-use crate::places::{entry_of, keep_first, place_of, put, value};
+use crate::places::{entry_of, keep_first, place_of, put};
+use crate::values::{Value, set_true};
 use am_lit::Lit;
 use std::alloc::{AllocError, Global};
 use std::marker::Model;
@@ -18,14 +20,16 @@ use std::marker::Model;
 pub struct Trail {
     entries: Vec<Entry>,
     places: Vec<u32>,
+    values: Vec<Value>,
     level: u32,
     head: u32,
 }
 
 impl Model for Trail {
-    ghost use Rattle.std.specs.Prelude.{length, vec_len, vec_capacity, ◌<◌, ◌≤◌, ◌^◌};
-    ghost use Rattle.am_trail.specs.Trails.{Assigned, Leads};
+    ghost use Rattle.std.specs.Prelude.{length, vec_len, vec_capacity, ◌≡◌, ◌<◌, ◌≤◌, ◌*◌, ◌^◌};
+    ghost use Rattle.am_trail.specs.Trails.{Assigned, Leads, literals};
     ghost use Rattle.am_trail.specs.inside.Places.{IsPlaced, variables};
+    ghost use Rattle.am_trail.specs.inside.Values.{AreValues};
 
     ghost Value = { Assigned };
 
@@ -38,7 +42,8 @@ impl Model for Trail {
 
     ghost invariant = { λ a. IsPlaced (variables a.entries.items) a.places.items × Leads 0 a.entries.items a.level
         × (vec_len a.places ≤ vec_capacity a.entries) × (vec_len a.places < 2 ^ 32)
-        × (a.head ≤ length a.entries.items) };
+        × (a.head ≤ length a.entries.items) × AreValues (literals a.entries.items) a.values.items
+        × (vec_len a.values ≡ 2 * vec_len a.places) };
 }
 
 /// How many entries stand on the levels up to this one.
@@ -64,6 +69,7 @@ impl Trail {
         Ok(Trail {
             entries: Vec::with_capacity(alloc, vars as usize)?,
             places: vec![in alloc; 0; vars as usize]?,
+            values: vec![in alloc; Value::Free; 2 * vars as usize]?,
             level: 0,
             head: 0,
         })
@@ -75,7 +81,11 @@ impl Trail {
         ensures none { IfNone result (IsFree (literals self.now.entries) l) }
         ensures some { IfSome result (λ b. Contains (literals self.now.entries) (if b then l else opposite_of l)) }
     {
-        value(self.entries.as_slice(), self.places.as_slice(), l)
+        match self.values[l.code() as usize] {
+            Value::Free => None,
+            Value::True => Some(true),
+            Value::False => Some(false),
+        }
     }
 
     /// Makes a literal true at a new level.
@@ -94,6 +104,7 @@ impl Trail {
             reason: None,
         };
         put(&mut self.entries, &mut self.places, entry);
+        set_true(&mut self.values, l);
     }
 
     /// Makes a literal true at the current level, since the clause with this number forces it.
@@ -110,6 +121,7 @@ impl Trail {
             reason: Some(reason),
         };
         put(&mut self.entries, &mut self.places, entry);
+        set_true(&mut self.values, l);
     }
 
     /// Takes back all levels above this one. The head is at most the new length.
@@ -122,7 +134,7 @@ impl Trail {
         } }
     {
         let len = count_upto(self.entries.as_slice(), level);
-        keep_first(&mut self.entries, &mut self.places, len);
+        keep_first(&mut self.entries, &mut self.places, &mut self.values, len);
         self.level = level;
         self.head = self.head.min(len as u32);
     }

@@ -1,4 +1,5 @@
 -- The lemmas that the proofs of other crates may cite, from one place. Declares nothing.
 pub use Rattle.am_watch.proofs.Parts.{Contains-take, Contains-drop}
-pub use Rattle.am_watch.proofs.Extending.{explained_more, Extends-refl, Extends-trans, literal_still, true_still, forced_false}
+pub use Rattle.am_watch.proofs.Extending.{explained_more, Extends-refl, Extends-trans, literal_still, true_still}
+pub use Rattle.am_watch.proofs.Extending.{forced_false}
 pub use Rattle.am_watch.proofs.Going.{decided, back, holds_decide, holds_back}

@@ -1,5 +1,6 @@
 -- What holds between watches, clauses and trail.
-use Rattle.std.specs.Prelude.{ℕ, ◌≡◌, ◌*◌, ◌<◌, ◌≤◌, List, [], ◌++◌, All, Contains, length, take, drop, slice_index_or, ◌⊎◌, Option, Some, None, IsSome}
+use Rattle.std.specs.Prelude.{ℕ, ◌≡◌, ◌*◌, ◌<◌, ◌≤◌, List, [], ◌++◌, All, Contains, length, take, drop, slice_index_or}
+use Rattle.std.specs.Prelude.{◌⊎◌, Option, Some, None, IsSome}
 use Rattle.am_lit.specs.Literal.{variable_of, opposite_of}
 use Rattle.am_lit.specs.UnitRow.{IsForcedBy, IsSettled}
 use Rattle.am_lit.specs.SearchLaws.{IsFalseIn}

@@ -1,6 +1,7 @@
 //! Lists of watchers, one for each literal.
 
-ghost use Rattle.std.specs.Prelude.{◌≡◌, ◌*◌, ◌<◌, ℕ, [], length, replicate, slice_index_or, slice_set, IfOk, OnOk, OnErr};
+ghost use Rattle.std.specs.Prelude.{◌≡◌, ◌*◌, ◌<◌, ℕ, [], length, replicate, slice_index_or, slice_set, IfOk, OnOk};
+ghost use Rattle.std.specs.Prelude.{OnErr};
 ghost use Rattle.am_watch.specs.Lists.{list_at};
 ghost use Rattle.am_watch.specs.inside.Rows.{IsLonger, IsShorter};
 ghost use Rattle.am_watch.specs.declared.watcher.Watcher.{Watcher};

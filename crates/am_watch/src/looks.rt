@@ -1,6 +1,7 @@
 //! What a clause's literals are worth under a trail.
 
-ghost use Rattle.std.specs.Prelude.{◌≡◌, ◌≢◌, ℕ, ◌<◌, ◌≤◌, ◌++◌, [], length, slice_index_or, All, Contains, List, IfNone, IfSome, true, false};
+ghost use Rattle.std.specs.Prelude.{◌≡◌, ◌≢◌, ℕ, ◌<◌, ◌≤◌, ◌++◌, [], length, slice_index_or, All, Contains, List};
+ghost use Rattle.std.specs.Prelude.{IfNone, IfSome, true, false};
 ghost use Rattle.am_lit.specs.Literal.{opposite_of, variable_of};
 ghost use Rattle.am_lit.specs.UnitRow.{IsForcedBy};
 ghost use Rattle.am_lit.specs.SearchLaws.{IsFalseIn};
@@ -56,7 +57,7 @@ pub fn open_besides(clause: &[Lit], other: Lit, trail: &Trail) -> Option<Lit>
         × (¬ (Contains (literals trail.now.entries) (opposite_of l)))) }
 {
     for l in clause {
-        if *l != other && !is_false(trail, *l) {
+        if !is_false(trail, *l) && *l != other {
             return Some(*l);
         }
     }

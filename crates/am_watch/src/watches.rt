@@ -1,6 +1,8 @@
 //! Unit propagation over watchers, pairs and fresh clauses.
 
-ghost use Rattle.std.specs.Prelude.{◌≡◌, ◌≢◌, ℕ, ◌+◌, ◌*◌, ◌^◌, ◌<◌, ◌≤◌, List, [], ◌∷◌, ◌++◌, All, Contains, length, slice_index_or, ◌⊎◌, OnErr, OnOk, vec_capacity, vec_len, IfOk, IfNone, IfSome, if◌then◌else◌, ◌==◌};
+ghost use Rattle.std.specs.Prelude.{◌≡◌, ◌≢◌, ℕ, ◌+◌, ◌*◌, ◌^◌, ◌<◌, ◌≤◌, List, [], ◌∷◌, ◌++◌, All, Contains, length};
+ghost use Rattle.std.specs.Prelude.{slice_index_or, ◌⊎◌, OnErr, OnOk, vec_capacity, vec_len, IfOk, IfNone, IfSome};
+ghost use Rattle.std.specs.Prelude.{if◌then◌else◌, ◌==◌};
 ghost use Rattle.am_lit.specs.Literal.{opposite_of, variable_of};
 ghost use Rattle.am_lit.specs.SearchLaws.{IsFalseIn};
 ghost use Rattle.am_lit.specs.UnitRow.{IsSettled};
@@ -10,7 +12,8 @@ ghost use Rattle.am_watch.specs.declared.watcher.Pair.{Pair};
 ghost use Rattle.am_watch.specs.Pairs.{IsPairOf, no_pair, other_of, pair_at};
 ghost use Rattle.am_watch.specs.Lists.{list_at};
 ghost use Rattle.am_watch.specs.inside.Rows.{IsCutAt};
-ghost use Rattle.am_watch.specs.Watching.{Extends, IsTrueUpTo, IsGuarded, IsWatched, IsPropagated, clause_at, empty_trail};
+ghost use Rattle.am_watch.specs.Watching.{Extends, IsTrueUpTo, IsGuarded, IsWatched, IsPropagated, clause_at};
+ghost use Rattle.am_watch.specs.Watching.{empty_trail};
 ghost use Rattle.am_watch.specs.inside.Sweeps.{IsLookedAt, AreLookedAt, IsSwept, IsTurn, IsVisited, HasStepped};
 
 use crate::lists::Lists;

@@ -8,4 +8,6 @@ loop-activity-preserved c =
     let i = c.loop-activity.activity-index in
     let within : i < length c.args.activities.now = omega arith in
     let here : i < length c.loop-activity.activities = omega arith in
-    map_over_more (λ a. a / 2) c.args.activities.now c.loop-activity.activities i (get_or c.loop-activity.activities i 0) within c.loop-activity.invariant (get_or_default c.loop-activity.activities i 0 (get_or c.loop-activity.activities i 0) here)
+    map_over_more (λ a. a / 2) c.args.activities.now c.loop-activity.activities i
+    (get_or c.loop-activity.activities i 0) within c.loop-activity.invariant
+    (get_or_default c.loop-activity.activities i 0 (get_or c.loop-activity.activities i 0) here)

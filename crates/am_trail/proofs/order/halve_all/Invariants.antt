@@ -3,4 +3,5 @@ use Rattle.am_trail.proofs.order.halve_all.Given as goal
 
 abbrev pub invariant-loop-activity : goal.invariant-loop-activity
 invariant-loop-activity l =
-    l.activities ≡ map (λ a. a / 2) (take l.activity-index l.initial.activities) ++ drop l.activity-index l.initial.activities
+    l.activities ≡ map (λ a. a / 2) (take l.activity-index l.initial.activities) ++ drop l.activity-index
+    l.initial.activities

@@ -10,9 +10,13 @@ use Rattle.am_trail.proofs.tests.shown.Goals as goal
 pub level_of-requires : goal.level_of-requires
 level_of-requires c =
     let es = c.args.trail.now.entries in
-    rw (c.variable-variable.ensures, c.literal.ensures) (Contains-map variable_of (literals es) _ (Contains-get_or (literals es) c.args.i 0 (omega (arith, length-map es (λ (e : Entry). e.literal)))))
+    rw (c.variable-variable.ensures, c.literal.ensures)
+    (Contains-map variable_of (literals es) _
+    (Contains-get_or (literals es) c.args.i 0 (omega (arith, length-map es (λ (e : Entry). e.literal)))))
 
 pub reason-requires : goal.reason-requires
 reason-requires c =
     let es = c.args.trail.now.entries in
-    rw (c.variable-variable.ensures, c.literal.ensures) (Contains-map variable_of (literals es) _ (Contains-get_or (literals es) c.args.i 0 (omega (arith, length-map es (λ (e : Entry). e.literal)))))
+    rw (c.variable-variable.ensures, c.literal.ensures)
+    (Contains-map variable_of (literals es) _
+    (Contains-get_or (literals es) c.args.i 0 (omega (arith, length-map es (λ (e : Entry). e.literal)))))

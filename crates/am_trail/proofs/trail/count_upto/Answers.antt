@@ -7,7 +7,8 @@ use Rattle.am_trail.proofs.trail.count_upto.Goals as goal
 
 pub loop-len-preserved : goal.loop-len-preserved
 loop-len-preserved c =
-    let at = level_at c.args.entries.now (c.loop-len.len - 1) c.index-entries-len.result (omega arith) c.index-entries-len.is in
+    let at = level_at c.args.entries.now (c.loop-len.len - 1) c.index-entries-len.result
+    (omega arith) c.index-entries-len.is in
     record {
       within = omega arith;
       above = λ k lo hi. elim (same_or k (c.loop-len.len - 1)) [
@@ -18,15 +19,20 @@ loop-len-preserved c =
 
 pub returns-else-entries-len-clause-prefix : goal.returns-else-entries-len-clause-prefix
 returns-else-entries-len-clause-prefix c =
-    let at = level_at c.args.entries.now (c.loop-len.len - 1) c.index-entries-len.result (omega arith) c.index-entries-len.is in
-    prefix_upto c.args.level 0 c.args.entries.now c.requires.0 c.loop-len.len c.requires.1 c.loop-len.invariant.within c.loop-len.invariant.above (λ pos. omega (arith, at, ap (λ (e : Entry). e.level) c.index-entries-len.is))
+    let at = level_at c.args.entries.now (c.loop-len.len - 1) c.index-entries-len.result
+    (omega arith) c.index-entries-len.is in
+    prefix_upto c.args.level 0 c.args.entries.now c.requires.0 c.loop-len.len c.requires.1 c.loop-len.invariant.within
+    c.loop-len.invariant.above (λ pos. omega (arith, at, ap (λ (e : Entry). e.level) c.index-entries-len.is))
 
 pub returns-after-loop-len-clause-prefix : goal.returns-after-loop-len-clause-prefix
 returns-after-loop-len-clause-prefix c =
-    prefix_upto c.args.level 0 c.args.entries.now c.requires.0 c.loop-len.len c.requires.1 c.loop-len.invariant.within c.loop-len.invariant.above (λ pos. absurd (omega arith))
+    prefix_upto c.args.level 0 c.args.entries.now c.requires.0 c.loop-len.len c.requires.1 c.loop-len.invariant.within
+    c.loop-len.invariant.above (λ pos. absurd (omega arith))
 
 pub returns-else-entries-len-clause-above : goal.returns-else-entries-len-clause-above
-returns-else-entries-len-clause-above c = λ k d le lt. rw (level_read c.args.entries.now k d lt) at (c.loop-len.invariant.above k le lt)
+returns-else-entries-len-clause-above c =
+    λ k d le lt. rw (level_read c.args.entries.now k d lt) at (c.loop-len.invariant.above k le lt)
 
 pub returns-after-loop-len-clause-above : goal.returns-after-loop-len-clause-above
-returns-after-loop-len-clause-above c = λ k d le lt. rw (level_read c.args.entries.now k d lt) at (c.loop-len.invariant.above k le lt)
+returns-after-loop-len-clause-above c = λ k d le lt. rw (level_read c.args.entries.now k d lt)
+    at (c.loop-len.invariant.above k le lt)

@@ -11,12 +11,14 @@ loop-v-preserved c =
     let v = c.loop-v.v in
     let places = c.loop-v.places in
     let new = rw c.deref_mut.ensures.value at c.push.ensures.places in
-    let same : length c.push.new.places ≡ length places.items = omega (arith, c.push.auto.places, ap length c.deref_mut.ensures.value) in
+    let same : length c.push.new.places ≡ length places.items =
+    omega (arith, c.push.auto.places, ap length c.deref_mut.ensures.value) in
     let back = write_back places.len c.push.new.places places.items same (omega (arith, places.ok.0)) in
     rw back (record {
       placed = c.push.ensures.placed;
       heap = c.push.ensures.heap ∙ ap (λ r. r ++ v ∷ []) h.heap ∙ range_push v;
-      later = λ u le. rw new (get_or-set_other places.items v u (vec_len c.loop-v.heap + 1) 0 (omega arith) ∙ h.later u (omega arith));
+      later = λ u le. rw new (get_or-set_other places.items v u (vec_len c.loop-v.heap + 1) 0 (omega arith)
+          ∙ h.later u (omega arith));
       vars = h.vars;
       room = omega (arith, h.room, c.push.ensures.room);
     })
@@ -27,7 +29,8 @@ invariant_of-result c =
     let places = c.loop-v.places.items in
     let vars : length places ≡ c.args.vars = omega (arith, h.vars, c.loop-v.places.ok.0) in
     let zeros : c.in_ok-activities.activities.items ≡ replicate c.args.vars 0 = search rules in
-    let all : c.loop-v.heap.items ≡ range_with_len 0 (length places) = h.heap ∙ ap (range_with_len 0) (omega (arith, vars, c.loop-v-test.false, c.loop-v.auto.v-end)) in
+    let all : c.loop-v.heap.items ≡ range_with_len 0 (length places) =
+    h.heap ∙ ap (range_with_len 0) (omega (arith, vars, c.loop-v-test.false, c.loop-v.auto.v-end)) in
     record {
       placed = h.placed;
       ordered = new_heap c.loop-v.heap.items places h.placed all c.in_ok-activities.activities.items (rw vars zeros);
@@ -42,5 +45,6 @@ returns c =
     let places = c.loop-v.places.items in
     let vars : length places ≡ c.args.vars = omega (arith, h.vars, c.loop-v.places.ok.0) in
     let zeros : c.in_ok-activities.activities.items ≡ replicate c.args.vars 0 = search rules in
-    let all : c.loop-v.heap.items ≡ range_with_len 0 (length places) = h.heap ∙ ap (range_with_len 0) (omega (arith, vars, c.loop-v-test.false, c.loop-v.auto.v-end)) in
+    let all : c.loop-v.heap.items ≡ range_with_len 0 (length places) =
+    h.heap ∙ ap (range_with_len 0) (omega (arith, vars, c.loop-v-test.false, c.loop-v.auto.v-end)) in
     rw (zeros, held_all c.loop-v.heap.items places h.placed all, vars) refl

@@ -13,10 +13,19 @@ overflow_cast-len c =
 pub invariant_of-self : goal.invariant_of-self
 invariant_of-self c =
     let f = c.self.inside in
-    let kept : c.keep_first.new.entries.items ≡ upto c.args.level f.entries.items = c.keep_first.ensures.entries ∙ rw c.as_slice.ensures.value at c.count_upto-len.ensures.prefix in (
+    let kept : c.keep_first.new.entries.items ≡ upto c.args.level f.entries.items = c.keep_first.ensures.entries
+    ∙ rw c.as_slice.ensures.value at c.count_upto-len.ensures.prefix in (
       c.keep_first.ensures.placed,
-      rw kept (Leads_upto c.args.level 0 f.entries.items f.level c.self.invariant.1 (omega arith) (omega (arith, ap (λ (v : Assigned). v.level) c.self.view_is))),
+      rw kept (Leads_upto c.args.level 0 f.entries.items f.level c.self.invariant.1 (omega arith)
+          (omega (arith, ap (λ (v : Assigned). v.level) c.self.view_is))),
       omega arith,
       omega arith,
-      omega (arith, ap length c.keep_first.ensures.entries, length-take c.count_upto-len.result f.entries.items, ap length c.as_slice.ensures.value),
+      omega (
+        arith,
+        ap length c.keep_first.ensures.entries,
+        length-take c.count_upto-len.result f.entries.items,
+        ap length c.as_slice.ensures.value,
+      ),
+      c.keep_first.ensures.values,
+      omega arith,
     )

@@ -1,22 +1,28 @@
 use Rattle.std.proofs.Common.{rules, arith, length, length-append, ap, refl, inr, [], ◌∷◌}
 use Rattle.std.specs.Prelude.{Some}
 use Rattle.am_trail.specs.declared.entry.Entry.{Entry}
-use Rattle.am_trail.proofs.Entries.{free_place}
+use Rattle.am_trail.specs.Trails.{literals}
+use Rattle.am_trail.proofs.Entries.{free_place, literals-push}
 use Rattle.am_trail.proofs.Leading.{Leads_push}
 use Rattle.am_trail.proofs.trail.Trail.imply.Goals as goal
 
 pub put-requires-clause-free : goal.put-requires-clause-free
 put-requires-clause-free c =
     let f = c.self.inside in
-    free_place f.entries.items f.places.items c.self.invariant.0 c.args.l (rw (← c.self.view_is) at c.requires.variable) (rw (← c.self.view_is) at c.requires.free)
+    free_place f.entries.items f.places.items c.self.invariant.0 c.args.l (rw (← c.self.view_is) at c.requires.variable)
+    (rw (← c.self.view_is) at c.requires.free)
 
 pub invariant_of-self : goal.invariant_of-self
 invariant_of-self c =
     let f = c.self.inside in
     let entry : Entry = record { literal = c.args.l; level = f.level; reason = Some c.args.reason } in (
       c.put.ensures.placed,
-      rw c.put.ensures.entries (Leads_push 0 f.entries.items f.level entry c.self.invariant.1 (inr (search rules, refl))),
+      rw c.put.ensures.entries (Leads_push 0 f.entries.items f.level entry c.self.invariant.1
+          (inr (search rules, refl))),
       omega arith,
       omega arith,
       omega (arith, ap length c.put.ensures.entries, length-append f.entries.items (entry ∷ [])),
+      rw (c.put.ensures.entries, literals-push f.entries.items entry)
+          (c.set_true.ensures.values (literals f.entries.items) c.self.invariant.5),
+      omega arith,
     )

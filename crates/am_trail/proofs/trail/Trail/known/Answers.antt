@@ -11,7 +11,8 @@ returns c =
     let short = few es f.places.items c.self.invariant.0 in
     let long = length-variables es in
     rw (← c.self.view_is) (record {
-      apart = λ i j li lj e. apart (variables es) f.places.items c.self.invariant.0 i j (omega arith) (omega arith) (variable_at es i li ∙ e ∙ sym (variable_at es j lj));
+      apart = λ i j li lj e. apart (variables es) f.places.items c.self.invariant.0 i j (omega arith) (omega arith)
+          (variable_at es i li ∙ e ∙ sym (variable_at es j lj));
       below = λ i li. rw (variable_at es i li) at (c.self.invariant.0.each i (omega arith)).0;
       few = omega arith;
       leads = c.self.invariant.1;

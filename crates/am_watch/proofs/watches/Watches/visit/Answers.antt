@@ -1,5 +1,6 @@
 use Rattle.std.proofs.Common.{arith, ◌++◌, refl}
-use Rattle.am_watch.proofs.Visiting.{blocked, blocked_kept, blocked_true, blocker_var, code_below, other_there, true_by, turns, watcher}
+use Rattle.am_watch.proofs.Visiting.{blocked, blocked_kept, blocked_true, blocker_var, code_below, other_there, true_by}
+use Rattle.am_watch.proofs.Visiting.{turns, watcher}
 use Rattle.am_watch.proofs.watches.Watches.visit.Goals as goal
 
 pub is_true-requires : goal.is_true-requires
