@@ -1,5 +1,4 @@
-use Rattle.std.proofs.Common.{ℕ, ◌≡◌, ◌+◌, ◌<◌, ◌≤◌, Bool, true, false, List, [], ◌∷◌, length, get_or, set, ◌-◌, refl}
-use Rattle.std.proofs.Common.{sym, ap, ◌∙◌, inl, inr, arith}
+use Rattle.std.proofs.Common.{ℕ, ◌≡◌, ◌+◌, ◌<◌, ◌≤◌, Bool, true, false, List, [], ◌∷◌, length, get_or, set, ◌-◌, refl, sym, ap, ◌∙◌, inl, inr, arith}
 use Rattle.std.specs.Prelude.{Contains, ◌⊎◌, Ok}
 use Rattle.std.specs.List.{AllPairs}
 use Rattle.std.specs.List.Sorted.{IsStrictlyIncreasing}
@@ -8,8 +7,7 @@ use Rattle.std.proofs.lemmas.List.Elements.{All-contains}
 use Rattle.std.proofs.lemmas.List.{get_or-set_other}
 use Rattle.std.proofs.lemmas.Option.{slice_get-get_or}
 use Rattle.am_lit.specs.Literal.{opposite_of}
-use Rattle.am_lit.proofs.Laws.{Contains-head, Contains-tail, Contains-nil, Contains-cons_cases, AllPairs-head}
-use Rattle.am_lit.proofs.Laws.{AllPairs-tail, same_or}
+use Rattle.am_lit.proofs.Laws.{Contains-head, Contains-tail, Contains-nil, Contains-cons_cases, AllPairs-head, AllPairs-tail, same_or}
 use Rattle.am_chain.specs.declared.chain.Step.{Step}
 use Rattle.am_chain.specs.Chains.{clause_of}
 use native.Mathlib.Decide.{dec_lt}

@@ -22,16 +22,18 @@ decided t e = record t { entries = t.entries ++ e ∷ []; level = t.level + 1 }
 abbrev pub back : Assigned → ℕ → Assigned
 back t j = record t { entries = upto j t.entries; level = j; head = min t.head (length (upto j t.entries)) }
 
-pub keeps_decide : (lists : List (List Watcher)) (pairs : List Pair) (fresh : List ℕ) (clauses : List (List ℕ)) (t : Assigned) (e : Entry) → Keeps lists pairs fresh clauses t → t.head ≡ length t.entries → e.level ≡ t.level + 1
+pub keeps_decide : (lists : List (List Watcher)) (pairs : List Pair) (fresh : List ℕ) (clauses : List (List ℕ))
+    (t : Assigned) (e : Entry) → Keeps lists pairs fresh clauses t → t.head ≡ length t.entries → e.level ≡ t.level + 1
     → Keeps lists pairs fresh clauses (decided t e)
 keeps_decide lists pairs fresh clauses t e h end at = record {
   numbers = h.numbers;
   codes = h.codes;
   variables = h.variables;
-  queued = λ x there. elim (Contains-push_cases (drop t.head t.entries) e x (rw (drop-append-le t.head t.entries (e ∷ []) le) at there)) [
-    | inl old ↦ absurd (Contains-nil x (rw (drop_all t.head t.entries (omega arith)) at old))
-    | inr same ↦ rw (← same) at
-  ];
+  queued = λ x there. elim (Contains-push_cases (drop t.head t.entries) e x
+      (rw (drop-append-le t.head t.entries (e ∷ []) le) at there)) [
+        | inl old ↦ absurd (Contains-nil x (rw (drop_all t.head t.entries (omega arith)) at old))
+        | inr same ↦ rw (← same) at
+      ];
   watchers = h.watchers;
   in_range = h.in_range;
   kept = λ i lt. elim (h.kept i lt) [
@@ -57,42 +59,62 @@ keeps_decide lists pairs fresh clauses t e h end at = record {
       (old.0, Contains-append_left t.entries (e ∷ []) old.0 old.1, old.2, old.3)
 
 -- the places before the head, and those from it on, in a prefix
-take_in : {X : Type 0} (xs : List X) (h n : ℕ) (x : X) → Contains (take (min h n) (take n xs)) x → Contains (take h xs) x
+take_in : {X : Type 0} (xs : List X) (h n : ℕ) (x : X) → Contains (take (min h n) (take n xs)) x
+    → Contains (take h xs) x
 take_in xs h n x (k, lt, is) =
     let a = length-take (min h n) (take n xs) in
     let b = length-take n xs in
     let c = length-take h xs in
     let lo : k < min h n = omega arith in
     let hi : k < n = omega arith in
-    let kh : k < h = omega arith in
-    (k, omega arith, get_or-take h xs k x kh ∙ sym (get_or-take n xs k x hi) ∙ sym (get_or-take (min h n) (take n xs) k x lo) ∙ is)
+    let kh : k < h = omega arith in (
+      k,
+      omega arith,
+      get_or-take h xs k x kh ∙ sym (get_or-take n xs k x hi)
+          ∙ sym (get_or-take (min h n) (take n xs) k x lo) ∙ is,
+    )
 
-drop_in : {X : Type 0} (xs : List X) (h n : ℕ) (x : X) → Contains (drop (min h n) (take n xs)) x → Contains (drop h xs) x
+drop_in : {X : Type 0} (xs : List X) (h n : ℕ) (x : X) → Contains (drop (min h n) (take n xs)) x
+    → Contains (drop h xs) x
 drop_in xs h n x (k, lt, is) =
     let a = length-drop (min h n) (take n xs) in
     let b = length-take n xs in
     let c = length-drop h xs in
     let same : min h n ≡ h = omega arith in
-    let hi : h + k < n = omega arith in
-    (k, omega arith, get_or-drop h xs k x ∙ sym (get_or-take n xs (h + k) x hi) ∙ sym (get_or-drop h (take n xs) k x) ∙ ap (λ m. get_or (drop m (take n xs)) k x) (sym same) ∙ is)
+    let hi : h + k < n = omega arith in (
+      k,
+      omega arith,
+      get_or-drop h xs k x ∙ sym (get_or-take n xs (h + k) x hi) ∙ sym (get_or-drop h (take n xs) k x)
+          ∙ ap (λ m. get_or (drop m (take n xs)) k x) (sym same) ∙ is,
+    )
 
 module _ (t : Assigned) (j : ℕ) (trail : IsTrail t) where
   prefix : upto j t.entries ≡ take (length (upto j t.entries)) t.entries
   prefix = upto-take j 0 t.entries t.level trail.leads
 
-  pub taken : (e : Entry) → Contains (take (back t j).head (back t j).entries) e → Contains (take t.head t.entries) e × (e.level ≤ j)
-  taken e there =
-      (take_in t.entries t.head (length (upto j t.entries)) e (at_prefix (λ r. Contains (take (min t.head (length (upto j t.entries))) r) e) there), (from_upto j t.entries e (Contains-take (back t j).head (back t j).entries e there)).1) where
-        at_prefix : (P : List Entry → Type 0) → P (upto j t.entries) → P (take (length (upto j t.entries)) t.entries)
-        at_prefix P h = subst P prefix h
+  pub taken : (e : Entry) → Contains (take (back t j).head (back t j).entries) e → Contains (take t.head t.entries) e
+      × (e.level ≤ j)
+  taken e there = (
+    take_in t.entries t.head (length (upto j t.entries)) e
+        (at_prefix (λ r. Contains (take (min t.head (length (upto j t.entries))) r) e) there),
+    (from_upto j t.entries e (Contains-take (back t j).head (back t j).entries e there)).1,
+  ) where
+    at_prefix : (P : List Entry → Type 0) → P (upto j t.entries) → P (take (length (upto j t.entries)) t.entries)
+    at_prefix P h = subst P prefix h
 
-  pub dropped : (e : Entry) → Contains (drop (back t j).head (back t j).entries) e → Contains (drop t.head t.entries) e × (e.level ≤ j)
-  dropped e there =
-      (drop_in t.entries t.head (length (upto j t.entries)) e (at_prefix (λ r. Contains (drop (min t.head (length (upto j t.entries))) r) e) there), (from_upto j t.entries e (Contains-drop (back t j).head (back t j).entries e there)).1) where
-        at_prefix : (P : List Entry → Type 0) → P (upto j t.entries) → P (take (length (upto j t.entries)) t.entries)
-        at_prefix P h = subst P prefix h
+  pub dropped : (e : Entry) → Contains (drop (back t j).head (back t j).entries) e → Contains (drop t.head t.entries) e
+      × (e.level ≤ j)
+  dropped e there = (
+    drop_in t.entries t.head (length (upto j t.entries)) e
+        (at_prefix (λ r. Contains (drop (min t.head (length (upto j t.entries))) r) e) there),
+    (from_upto j t.entries e (Contains-drop (back t j).head (back t j).entries e there)).1,
+  ) where
+    at_prefix : (P : List Entry → Type 0) → P (upto j t.entries) → P (take (length (upto j t.entries)) t.entries)
+    at_prefix P h = subst P prefix h
 
-pub keeps_back : (lists : List (List Watcher)) (pairs : List Pair) (fresh : List ℕ) (clauses : List (List ℕ)) (t : Assigned) (j : ℕ) → Keeps lists pairs fresh clauses t → IsTrail t → j ≤ t.level → Keeps lists pairs fresh clauses (back t j)
+pub keeps_back : (lists : List (List Watcher)) (pairs : List Pair) (fresh : List ℕ) (clauses : List (List ℕ))
+    (t : Assigned) (j : ℕ) → Keeps lists pairs fresh clauses t → IsTrail t → j ≤ t.level
+    → Keeps lists pairs fresh clauses (back t j)
 keeps_back lists pairs fresh clauses t j h trail le = record {
   numbers = h.numbers;
   codes = h.codes;
@@ -121,9 +143,11 @@ keeps_back lists pairs fresh clauses t j h trail le = record {
       (old.0, in_upto j t.entries old.0 old.1 (omega (arith, old.3, d.1)), old.2, old.3)
 
 -- a decision keeps the invariant, where the head stands at the end
-pub holds_decide : (w : Watched) (clauses : List (List ℕ)) (t : Assigned) (e : Entry) → Holds w clauses t → t.head ≡ length t.entries → e.level ≡ t.level + 1 → Holds w clauses (decided t e)
+pub holds_decide : (w : Watched) (clauses : List (List ℕ)) (t : Assigned) (e : Entry) → Holds w clauses t
+    → t.head ≡ length t.entries → e.level ≡ t.level + 1 → Holds w clauses (decided t e)
 holds_decide w clauses t e h end at = keeps_decide w.lists w.pairs w.fresh clauses t e h end at
 
 -- so does a return to a level
-pub holds_back : (w : Watched) (clauses : List (List ℕ)) (t : Assigned) (j : ℕ) → Holds w clauses t → IsTrail t → j ≤ t.level → Holds w clauses (back t j)
+pub holds_back : (w : Watched) (clauses : List (List ℕ)) (t : Assigned) (j : ℕ) → Holds w clauses t → IsTrail t
+    → j ≤ t.level → Holds w clauses (back t j)
 holds_back w clauses t j h trail le = keeps_back w.lists w.pairs w.fresh clauses t j h trail le

@@ -21,8 +21,10 @@ use Rattle.am_trail.proofs.Laws.{entry_of, level_le, literal_in}
 use Rattle.am_watch.proofs.Parts.{Contains-take}
 
 -- a literal that isn't false is guarded
-pub guarded_open : (t : Assigned) (c : List ℕ) (l : ℕ) → ¬ (Contains (literals t.entries) (opposite_of l)) → IsGuarded t c l
-guarded_open t c l open' e there is = absurd (open' (rw is at (literal_in t.entries e (Contains-take t.head t.entries e there))))
+pub guarded_open : (t : Assigned) (c : List ℕ) (l : ℕ) → ¬ (Contains (literals t.entries) (opposite_of l))
+    → IsGuarded t c l
+guarded_open t c l open' e there is = absurd
+    (open' (rw is at (literal_in t.entries e (Contains-take t.head t.entries e there))))
 
 -- a true clause is true on a level up to the current one
 pub true_up_to : (t : Assigned) (c : List ℕ) → IsTrail t → IsTrueIn t.entries c → IsTrueUpTo t.entries c t.level
@@ -31,14 +33,17 @@ true_up_to t c trail h =
     (e.0, e.1, rw (← e.2) at h.1, level_le 0 t.entries t.level trail.leads e.0 e.1)
 
 -- in a true clause a literal of the current level is guarded
-pub guarded_current : (t : Assigned) (c : List ℕ) (l : ℕ) → IsTrail t → IsTrueIn t.entries c → ((e : Entry) → Contains t.entries e → e.literal ≡ opposite_of l → t.level ≡ e.level) → IsGuarded t c l
+pub guarded_current : (t : Assigned) (c : List ℕ) (l : ℕ) → IsTrail t → IsTrueIn t.entries c
+    → ((e : Entry) → Contains t.entries e → e.literal ≡ opposite_of l → t.level ≡ e.level) → IsGuarded t c l
 guarded_current t c l trail h at e there is =
     let up = true_up_to t c trail h in
     (up.0, up.1, up.2, omega (arith, up.3, at e (Contains-take t.head t.entries e there) is))
 
-module _ (lists : List (List Watcher)) (pairs : List Pair) (fresh : List ℕ) (clauses : List (List ℕ)) (t : Assigned) (h : Keeps lists pairs fresh clauses t) where
+module _ (lists : List (List Watcher)) (pairs : List Pair) (fresh : List ℕ) (clauses : List (List ℕ)) (t : Assigned)
+    (h : Keeps lists pairs fresh clauses t) where
   -- one more watcher
-  pub with_watcher : (l : ℕ) (w : Watcher) (new : List (List Watcher)) → IsLonger l w lists new → IsWatcher clauses pairs w → Keeps new pairs fresh clauses t
+  pub with_watcher : (l : ℕ) (w : Watcher) (new : List (List Watcher)) → IsLonger l w lists new
+      → IsWatcher clauses pairs w → Keeps new pairs fresh clauses t
   with_watcher l w new longer is = record {
     numbers = h.numbers;
     codes = longer.count ∙ h.codes;
@@ -64,7 +69,9 @@ module _ (lists : List (List Watcher)) (pairs : List Pair) (fresh : List ℕ) (c
     more m i k = (k.0, longer.keeps m k.0 k.1, k.2)
 
   -- another blocking literal for a watcher
-  module _ (l j : ℕ) (w : Watcher) (code : l < length lists) (place : j < length (list_at lists l)) (same : (d : Watcher) → (get_or (list_at lists l) j d).clause ≡ w.clause) (blocks : Contains (clause_at clauses w.clause) w.blocker) where
+  module _ (l j : ℕ) (w : Watcher) (code : l < length lists) (place : j < length (list_at lists l))
+      (same : (d : Watcher) → (get_or (list_at lists l) j d).clause ≡ w.clause)
+      (blocks : Contains (clause_at clauses w.clause) w.blocker) where
     abbrev pub row : List Watcher
     row = set (list_at lists l) j w
 
@@ -77,8 +84,26 @@ module _ (lists : List (List Watcher)) (pairs : List Pair) (fresh : List ℕ) (c
       | inl e ↦
           let there = rw e at old.1 in
           rw (e, row_now) (elim (same_or there.0 j) [
-            | inl at ↦ (w, (j, omega (arith, length-set (list_at lists l) j w), get_or-set_same (list_at lists l) j w w place), sym (same old.0) ∙ ap (λ k. (get_or (list_at lists l) k old.0).clause) (sym at) ∙ ap (λ (x : Watcher). x.clause) there.2 ∙ old.2)
-            | inr apart ↦ (old.0, (there.0, omega (arith, there.1, length-set (list_at lists l) j w), get_or-set_other (list_at lists l) j there.0 w old.0 apart ∙ there.2), old.2)
+            | inl at ↦ (
+              w,
+              (
+                j,
+                omega (arith, length-set (list_at lists l) j w),
+                get_or-set_same (list_at lists l) j w w place,
+              ),
+              sym (same old.0)
+                  ∙ ap (λ k. (get_or (list_at lists l) k old.0).clause) (sym at) ∙ ap (λ (x : Watcher). x.clause) there.2
+                  ∙ old.2,
+            )
+            | inr apart ↦ (
+              old.0,
+              (
+                there.0,
+                omega (arith, there.1, length-set (list_at lists l) j w),
+                get_or-set_other (list_at lists l) j there.0 w old.0 apart ∙ there.2,
+              ),
+              old.2,
+            )
           ])
     ]
 
@@ -98,8 +123,13 @@ module _ (lists : List (List Watcher)) (pairs : List Pair) (fresh : List ℕ) (c
         | inl e ↦
             let in_row = rw (e, row_now) at there in
             elim (same_or in_row.0 j) [
-              | inl at ↦ let is : w ≡ x = sym (get_or-set_same (list_at lists l) j w x place) ∙ ap (λ k. get_or row k x) (sym at) ∙ in_row.2 in rw (← is) watcher_now
-              | inr apart ↦ h.watchers l x (in_row.0, omega (arith, in_row.1, length-set (list_at lists l) j w), sym (get_or-set_other (list_at lists l) j in_row.0 w x apart) ∙ in_row.2)
+              | inl at ↦ let is : w ≡ x = sym (get_or-set_same (list_at lists l) j w x place)
+                  ∙ ap (λ k. get_or row k x) (sym at) ∙ in_row.2 in rw (← is) watcher_now
+              | inr apart ↦ h.watchers l x (
+                in_row.0,
+                omega (arith, in_row.1, length-set (list_at lists l) j w),
+                sym (get_or-set_other (list_at lists l) j in_row.0 w x apart) ∙ in_row.2,
+              )
             ]
       ];
       in_range = h.in_range;
@@ -119,7 +149,8 @@ module _ (lists : List (List Watcher)) (pairs : List Pair) (fresh : List ℕ) (c
     }
 
   -- another pair for a clause
-  pub with_pair : (i : ℕ) (p : Pair) → i < length clauses → IsPairOf (clause_at clauses i) p → Contains fresh i ⊎ IsSafe lists t (clause_at clauses i) i p → Keeps lists (set pairs i p) fresh clauses t
+  pub with_pair : (i : ℕ) (p : Pair) → i < length clauses → IsPairOf (clause_at clauses i) p → Contains fresh i
+      ⊎ IsSafe lists t (clause_at clauses i) i p → Keeps lists (set pairs i p) fresh clauses t
   with_pair i p lt is kept = record {
     numbers = length-set pairs i p ∙ h.numbers;
     codes = h.codes;
@@ -137,20 +168,23 @@ module _ (lists : List (List Watcher)) (pairs : List Pair) (fresh : List ℕ) (c
     in_pairs : i < length pairs
     in_pairs = omega (arith, h.numbers)
 
-    pair_of : (k : ℕ) → IsPairOf (clause_at clauses k) (pair_at pairs k) → IsPairOf (clause_at clauses k) (pair_at (set pairs i p) k)
+    pair_of : (k : ℕ) → IsPairOf (clause_at clauses k) (pair_at pairs k)
+        → IsPairOf (clause_at clauses k) (pair_at (set pairs i p) k)
     pair_of k old = elim (same_or k i) [
       | inl e ↦ rw (e, get_or-set_same pairs i p none in_pairs) is
       | inr ne ↦ rw (get_or-set_other pairs i k p none ne) old
     ]
 
-    kept_of : (k : ℕ) → Contains fresh k ⊎ IsSafe lists t (clause_at clauses k) k (pair_at pairs k) → Contains fresh k ⊎ IsSafe lists t (clause_at clauses k) k (pair_at (set pairs i p) k)
+    kept_of : (k : ℕ) → Contains fresh k ⊎ IsSafe lists t (clause_at clauses k) k (pair_at pairs k) → Contains fresh k
+        ⊎ IsSafe lists t (clause_at clauses k) k (pair_at (set pairs i p) k)
     kept_of k old = elim (same_or k i) [
       | inl e ↦ rw (e, get_or-set_same pairs i p none in_pairs) kept
       | inr ne ↦ rw (get_or-set_other pairs i k p none ne) old
     ]
 
   -- a watcher of a clause that is watched elsewhere goes
-  pub without_watcher : (l j i : ℕ) (new : List (List Watcher)) → IsShorter l j lists new → ((d : Watcher) → (get_or (list_at lists l) j d).clause ≡ i)
+  pub without_watcher : (l j i : ℕ) (new : List (List Watcher)) → IsShorter l j lists new
+      → ((d : Watcher) → (get_or (list_at lists l) j d).clause ≡ i)
       → (pair_at pairs i).first ≢ l → (pair_at pairs i).second ≢ l → Keeps new pairs fresh clauses t
   without_watcher l j i new shorter at first second = record {
     numbers = h.numbers;
@@ -186,7 +220,8 @@ module _ (lists : List (List Watcher)) (pairs : List Pair) (fresh : List ℕ) (c
     ]
 
   -- a clause that is watched isn't fresh any more
-  pub without_fresh : (i : ℕ) (new : List ℕ) → ((x : ℕ) → Contains fresh x → Contains new x ⊎ (x ≡ i)) → ((x : ℕ) → Contains new x → Contains fresh x)
+  pub without_fresh : (i : ℕ) (new : List ℕ) → ((x : ℕ) → Contains fresh x → Contains new x ⊎ (x ≡ i))
+      → ((x : ℕ) → Contains new x → Contains fresh x)
       → IsSafe lists t (clause_at clauses i) i (pair_at pairs i) → Keeps lists pairs new clauses t
   without_fresh i new keeps within watched = record {
     numbers = h.numbers;
@@ -202,15 +237,17 @@ module _ (lists : List (List Watcher)) (pairs : List Pair) (fresh : List ℕ) (c
   }
 
   -- the trail grows by an entry of its level
-  pub with_entry : (e : Entry) → e.level ≡ t.level → t.head ≤ length t.entries → Keeps lists pairs fresh clauses (record t { entries = t.entries ++ e ∷ [] })
+  pub with_entry : (e : Entry) → e.level ≡ t.level → t.head ≤ length t.entries
+      → Keeps lists pairs fresh clauses (record t { entries = t.entries ++ e ∷ [] })
   with_entry e at le = record {
     numbers = h.numbers;
     codes = h.codes;
     variables = h.variables;
-    queued = λ x there. elim (Contains-push_cases (drop t.head t.entries) e x (rw (drop-append-le t.head t.entries (e ∷ []) le) at there)) [
-      | inl old ↦ h.queued x old
-      | inr same ↦ rw (← same) at
-    ];
+    queued = λ x there. elim (Contains-push_cases (drop t.head t.entries) e x
+        (rw (drop-append-le t.head t.entries (e ∷ []) le) at there)) [
+          | inl old ↦ h.queued x old
+          | inr same ↦ rw (← same) at
+        ];
     watchers = h.watchers;
     in_range = h.in_range;
     kept = λ i lt. elim (h.kept i lt) [
@@ -233,13 +270,16 @@ module _ (lists : List (List Watcher)) (pairs : List Pair) (fresh : List ℕ) (c
         (old.0, Contains-append_left t.entries (e ∷ []) old.0 old.1, old.2, old.3)
 
   -- the entry at the head is passed, where all watchers of its opposite have true clauses
-  pub passed : (p : ℕ) (d : Entry) → IsTrail t → t.head < length t.entries → (get_or t.entries t.head d).literal ≡ opposite_of p
-      → ((x : Watcher) → Contains (list_at lists p) x → IsTrueIn t.entries (clause_at clauses x.clause)) → Keeps lists pairs fresh clauses (record t { head = t.head + 1 })
+  pub passed : (p : ℕ) (d : Entry) → IsTrail t → t.head < length t.entries
+      → (get_or t.entries t.head d).literal ≡ opposite_of p
+      → ((x : Watcher) → Contains (list_at lists p) x → IsTrueIn t.entries (clause_at clauses x.clause))
+      → Keeps lists pairs fresh clauses (record t { head = t.head + 1 })
   passed p d trail lt at done = record {
     numbers = h.numbers;
     codes = h.codes;
     variables = h.variables;
-    queued = λ x there. h.queued x (rw (drop_more t.entries t.head d lt) (Contains-tail here (drop (t.head + 1) t.entries) x there));
+    queued = λ x there. h.queued x (rw (drop_more t.entries t.head d lt)
+        (Contains-tail here (drop (t.head + 1) t.entries) x there));
     watchers = h.watchers;
     in_range = h.in_range;
     kept = λ i li. elim (h.kept i li) [
@@ -262,46 +302,60 @@ module _ (lists : List (List Watcher)) (pairs : List Pair) (fresh : List ℕ) (c
     current : here.level ≡ t.level
     current = h.queued here (rw (drop_more t.entries t.head d lt) (Contains-head here (drop (t.head + 1) t.entries)))
 
-    guarded : (i l : ℕ) → IsListed lists l i → IsGuarded t (clause_at clauses i) l → IsGuarded (record t { head = t.head + 1 }) (clause_at clauses i) l
-    guarded i l listed g x there is = elim (Contains-push_cases (take t.head t.entries) here x (rw (take_more t.entries t.head d lt) at there)) [
-      | inl old ↦ g x old is
-      | inr same ↦
-          let other : p ≡ l = sym (opposite_of-opposite_of p) ∙ ap opposite_of (sym at ∙ ap (λ (e : Entry). e.literal) same ∙ is) ∙ opposite_of-opposite_of l in
-          let true' = done listed.0 (rw other listed.1) in
-          let up = true_up_to t (clause_at clauses i) trail (rw listed.2 at true') in
-          (up.0, up.1, up.2, omega (arith, up.3, current, ap (λ (e : Entry). e.level) same))
-    ]
+    guarded : (i l : ℕ) → IsListed lists l i → IsGuarded t (clause_at clauses i) l
+        → IsGuarded (record t { head = t.head + 1 }) (clause_at clauses i) l
+    guarded i l listed g x there is = elim (Contains-push_cases (take t.head t.entries) here x
+        (rw (take_more t.entries t.head d lt) at there)) [
+          | inl old ↦ g x old is
+          | inr same ↦
+              let other : p ≡ l = sym (opposite_of-opposite_of p)
+              ∙ ap opposite_of (sym at ∙ ap (λ (e : Entry). e.literal) same ∙ is) ∙ opposite_of-opposite_of l in
+              let true' = done listed.0 (rw other listed.1) in
+              let up = true_up_to t (clause_at clauses i) trail (rw listed.2 at true') in
+              (up.0, up.1, up.2, omega (arith, up.3, current, ap (λ (e : Entry). e.level) same))
+        ]
 
   -- where all is passed and each fresh clause is true, each clause is settled
-  pub all_settled : IsTrail t → t.head ≡ length t.entries → ((i : ℕ) → Contains fresh i → IsTrueIn t.entries (clause_at clauses i)) → All (IsSettled (literals t.entries)) clauses
-  all_settled trail end true' = All-from_get_or (IsSettled (literals t.entries)) clauses [] (λ i lt. elim (h.kept i lt) [
-    | inl f ↦ inl (true' i f)
-    | inr safe ↦ elim safe [
-      | inl k ↦ settled (clause_at clauses i) (pair_at pairs i) k.pair k.first_guarded k.second_guarded
-      | inr up ↦ inl (up.0.literal, up.2, literal_in t.entries up.0 up.1)
-    ]
-  ]) where
-    row : List ℕ
-    row = literals t.entries
+  pub all_settled : IsTrail t → t.head ≡ length t.entries
+      → ((i : ℕ) → Contains fresh i → IsTrueIn t.entries (clause_at clauses i))
+      → All (IsSettled (literals t.entries)) clauses
+  all_settled trail end true' = All-from_get_or (IsSettled (literals t.entries)) clauses []
+      (λ i lt. elim (h.kept i lt) [
+        | inl f ↦ inl (true' i f)
+        | inr safe ↦ elim safe [
+          | inl k ↦ settled (clause_at clauses i) (pair_at pairs i) k.pair k.first_guarded k.second_guarded
+          | inr up ↦ inl (up.0.literal, up.2, literal_in t.entries up.0 up.1)
+        ]
+      ]) where
+        row : List ℕ
+        row = literals t.entries
 
-    -- a watched literal that is false has a true one beside it
-    beside : (c : List ℕ) (l : ℕ) → IsGuarded t c l → Contains row (opposite_of l) → IsSettled row c
-    beside c l g false' =
-        let e = entry_of t.entries (opposite_of l) false' in
-        let up = g e.0 (rw (end, take_all (length t.entries) t.entries (omega arith)) e.1) e.2 in
-        inl (up.0.literal, up.2, literal_in t.entries up.0 up.1)
+        -- a watched literal that is false has a true one beside it
+        beside : (c : List ℕ) (l : ℕ) → IsGuarded t c l → Contains row (opposite_of l) → IsSettled row c
+        beside c l g false' =
+            let e = entry_of t.entries (opposite_of l) false' in
+            let up = g e.0 (rw (end, take_all (length t.entries) t.entries (omega arith)) e.1) e.2 in
+            inl (up.0.literal, up.2, literal_in t.entries up.0 up.1)
 
-    settled : (c : List ℕ) (p : Pair) → IsPairOf c p → IsGuarded t c p.first → IsGuarded t c p.second → IsSettled row c
-    settled c p is g k = elim (member_or row (opposite_of p.first)) [
-      | inl f ↦ beside c p.first g f
-      | inr first_open ↦ elim (member_or row (opposite_of p.second)) [
-        | inl f ↦ beside c p.second k f
-        | inr second_open ↦ elim (member_or row p.first) [
-          | inl y ↦ inl (p.first, is.first, y)
-          | inr no_first ↦ elim (member_or row p.second) [
-            | inl y ↦ inl (p.second, is.second, y)
-            | inr no_second ↦ inr (p.first, p.second, is.first, is.second, is.differ, (no_first, first_open), (no_second, second_open))
+        settled : (c : List ℕ) (p : Pair) → IsPairOf c p → IsGuarded t c p.first → IsGuarded t c p.second → IsSettled row c
+        settled c p is g k = elim (member_or row (opposite_of p.first)) [
+          | inl f ↦ beside c p.first g f
+          | inr first_open ↦ elim (member_or row (opposite_of p.second)) [
+            | inl f ↦ beside c p.second k f
+            | inr second_open ↦ elim (member_or row p.first) [
+              | inl y ↦ inl (p.first, is.first, y)
+              | inr no_first ↦ elim (member_or row p.second) [
+                | inl y ↦ inl (p.second, is.second, y)
+                | inr no_second ↦ inr (
+                  p.first,
+                  p.second,
+                  is.first,
+                  is.second,
+                  is.differ,
+                  (no_first, first_open),
+                  (no_second, second_open),
+                )
+              ]
+            ]
           ]
         ]
-      ]
-    ]

@@ -18,14 +18,18 @@ pub along : (P : ℕ → Type 0) (a b : ℕ) → a ≡ b → P b → P a
 along P a b e h = rw e h
 
 -- the other literal is one of the two, and not this one
-pub other_cases : (p : Pair) (l : ℕ) → p.first ≢ p.second → ((other_of p l ≡ p.first) ⊎ (other_of p l ≡ p.second)) × (other_of p l ≢ l)
+pub other_cases : (p : Pair) (l : ℕ) → p.first ≢ p.second → ((other_of p l ≡ p.first) ⊎ (other_of p l ≡ p.second))
+    × (other_of p l ≢ l)
 other_cases p l differ = go (eqb p.first l) (eqb-true p.first l) (eqb-false p.first l) where
-  go : (b : Bool) → (b ≡ true → p.first ≡ l) → (b ≡ false → p.first ≢ l) → ((cond b p.second p.first ≡ p.first) ⊎ (cond b p.second p.first ≡ p.second)) × (cond b p.second p.first ≢ l)
+  go : (b : Bool) → (b ≡ true → p.first ≡ l) → (b ≡ false → p.first ≢ l)
+      → ((cond b p.second p.first ≡ p.first) ⊎ (cond b p.second p.first ≡ p.second)) × (cond b p.second p.first ≢ l)
   go true y n = (inr refl, λ e. differ (y refl ∙ sym e))
   go false y n = (inl refl, n refl)
 
-module _ (lists mid new : List (List Watcher)) (pairs : List Pair) (fresh : List ℕ) (clauses : List (List ℕ)) (t : Assigned) (l j i other next : ℕ)
-    (h : Keeps lists pairs fresh clauses t) (turn : IsTurn lists pairs clauses (literals t.entries) l j i other next) where
+module _ (lists mid new : List (List Watcher)) (pairs : List Pair) (fresh : List ℕ) (clauses : List (List ℕ))
+    (t : Assigned) (l j i other next : ℕ)
+    (h : Keeps lists pairs fresh clauses t)
+    (turn : IsTurn lists pairs clauses (literals t.entries) l j i other next) where
   abbrev pub w : Watcher
   w = record { clause = i; blocker = other }
 
@@ -39,7 +43,11 @@ module _ (lists mid new : List (List Watcher)) (pairs : List Pair) (fresh : List
   cases = rw (← turn.other) at (other_cases (pair_at pairs i) l turn.pair.differ)
 
   other_there : Contains c other
-  other_there = elim cases.0 [ inl e ↦ along (Contains c) other _ e turn.pair.first | inr e ↦ along (Contains c) other _ e turn.pair.second ]
+  other_there = elim cases.0 [
+    | inl e ↦ along (Contains c) other _ e turn.pair.first
+    | inr e ↦ along (Contains c) other _
+        e turn.pair.second
+  ]
 
   module _ (longer : IsLonger next w lists mid) where
     pub row_same : list_at mid l ≡ list_at lists l
@@ -50,10 +58,15 @@ module _ (lists mid new : List (List Watcher)) (pairs : List Pair) (fresh : List
 
     module _ (shorter : IsShorter l j mid new) where
       pub cut_at : IsCutAt j (list_at lists l) (list_at new l)
-      cut_at = record { shorter = shorter.shorter ∙ ap length row_same; begins = λ k d lt. shorter.begins k d lt ∙ ap (λ r. get_or r k d) row_same }
+      cut_at = record {
+        shorter = shorter.shorter ∙ ap length row_same;
+        begins = λ k d lt. shorter.begins k d lt
+            ∙ ap (λ r. get_or r k d) row_same;
+      }
 
       h1 : Keeps mid pairs fresh clauses t
-      h1 = with_watcher lists pairs fresh clauses t h next w mid longer (record { number = turn.number; blocker = other_there; pair = turn.pair })
+      h1 = with_watcher lists pairs fresh clauses t h next w mid longer
+          (record { number = turn.number; blocker = other_there; pair = turn.pair })
 
       abbrev pub p : Pair
       p = record { first = other; second = next }
@@ -62,10 +75,18 @@ module _ (lists mid new : List (List Watcher)) (pairs : List Pair) (fresh : List
       is = record { first = other_there; second = turn.next; differ = λ e. turn.differ (sym e) }
 
       listed : IsWatched mid t c i (pair_at pairs i) → IsListed mid other i
-      listed k = elim cases.0 [ inl e ↦ along (λ m. IsListed mid m i) other _ e k.first_listed | inr e ↦ along (λ m. IsListed mid m i) other _ e k.second_listed ]
+      listed k = elim cases.0 [
+        | inl e ↦ along (λ m. IsListed mid m i) other _ e k.first_listed
+        | inr e ↦ along
+            (λ m. IsListed mid m i) other _ e k.second_listed
+      ]
 
       guarded : IsWatched mid t c i (pair_at pairs i) → IsGuarded t c other
-      guarded k = elim cases.0 [ inl e ↦ along (IsGuarded t c) other _ e k.first_guarded | inr e ↦ along (IsGuarded t c) other _ e k.second_guarded ]
+      guarded k = elim cases.0 [
+        | inl e ↦ along (IsGuarded t c) other _ e k.first_guarded
+        | inr e ↦ along
+            (IsGuarded t c) other _ e k.second_guarded
+      ]
 
       kept : Contains fresh i ⊎ IsSafe mid t c i (pair_at pairs i) → Contains fresh i ⊎ IsSafe mid t c i p
       kept (inl f) = inl f
@@ -85,5 +106,6 @@ module _ (lists mid new : List (List Watcher)) (pairs : List Pair) (fresh : List
       pair_now = get_or-set_same pairs i p (record { first = 0; second = 0 }) (omega (arith, h.numbers, turn.number))
 
       pub turned : Keeps new (set pairs i p) fresh clauses t
-      turned = without_watcher mid (set pairs i p) fresh clauses t h2 l j i new shorter (λ d. ap (λ r. (get_or r j d).clause) row_same ∙ turn.here d)
+      turned = without_watcher mid (set pairs i p) fresh clauses t h2 l j i new shorter
+          (λ d. ap (λ r. (get_or r j d).clause) row_same ∙ turn.here d)
           (rw pair_now cases.1) (rw pair_now apart)

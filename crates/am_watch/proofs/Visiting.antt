@@ -18,15 +18,18 @@ use Rattle.am_watch.proofs.Turning.{along, other_cases}
 pub code_below : (l vars n : ℕ) → variable_of l < vars → n ≡ 2 * vars → l < n
 code_below l vars n lt e = omega arith
 
-module _ (lists : List (List Watcher)) (pairs : List Pair) (fresh : List ℕ) (clauses : List (List ℕ)) (t : Assigned) (l j : ℕ)
-    (h : Keeps lists pairs fresh clauses t) (place : j < length (list_at lists l)) (w : Watcher) (at : (d : Watcher) → w ≡ get_or (list_at lists l) j d) where
+module _ (lists : List (List Watcher)) (pairs : List Pair) (fresh : List ℕ) (clauses : List (List ℕ)) (t : Assigned)
+    (l j : ℕ)
+    (h : Keeps lists pairs fresh clauses t) (place : j < length (list_at lists l)) (w : Watcher) (at : (d : Watcher)
+    → w ≡ get_or (list_at lists l) j d) where
   pub watcher : IsWatcher clauses pairs w
   watcher = h.watchers l w (j, place, sym (at w))
 
   pub blocker_var : variable_of w.blocker < t.vars
   blocker_var = h.variables w.clause w.blocker watcher.blocker
 
-  pub true_by : (entries : List Entry) (m : ℕ) → Contains (clause_at clauses w.clause) m → Contains (literals entries) m → (d : Watcher) → IsTrueIn entries (clause_at clauses (get_or (list_at lists l) j d).clause)
+  pub true_by : (entries : List Entry) (m : ℕ) → Contains (clause_at clauses w.clause) m → Contains (literals entries) m
+      → (d : Watcher) → IsTrueIn entries (clause_at clauses (get_or (list_at lists l) j d).clause)
   true_by entries m there true' d = rw (← at d) (m, there, true')
 
   pub here : (d : Watcher) → (get_or (list_at lists l) j d).clause ≡ w.clause
@@ -34,7 +37,8 @@ module _ (lists : List (List Watcher)) (pairs : List Pair) (fresh : List ℕ) (c
 
   module _ (o : ℕ) (p : Pair) (read : p ≡ get_or pairs w.clause p) (by : o ≡ other_of p l) where
     is : o ≡ other_of (pair_at pairs w.clause) l
-    is = by ∙ ap (λ q. other_of q l) (read ∙ get_or_default pairs w.clause p (record { first = 0; second = 0 }) (omega (arith, watcher.number, h.numbers)))
+    is = by ∙ ap (λ q. other_of q l) (read
+        ∙ get_or_default pairs w.clause p (record { first = 0; second = 0 }) (omega (arith, watcher.number, h.numbers)))
 
     pub other_there : Contains (clause_at clauses w.clause) o
     other_there = elim (other_cases (pair_at pairs w.clause) l watcher.pair.differ).0 [
@@ -44,21 +48,35 @@ module _ (lists : List (List Watcher)) (pairs : List Pair) (fresh : List ℕ) (c
 
     -- it blocks from now on
     module _ (code : l < length lists) where
-      pub blocked : Keeps (set lists l (set (list_at lists l) j (record { clause = w.clause; blocker = o }))) pairs fresh clauses t
-      blocked = with_blocker lists pairs fresh clauses t h l j (record { clause = w.clause; blocker = o }) code place here other_there
+      pub blocked : Keeps (set lists l (set (list_at lists l) j (record { clause = w.clause; blocker = o }))) pairs
+          fresh clauses t
+      blocked = with_blocker lists pairs fresh clauses t h l j (record { clause = w.clause; blocker = o }) code place
+          here other_there
 
-      pub blocked_kept : IsKeptAt j (list_at lists l) (list_at (set lists l (set (list_at lists l) j (record { clause = w.clause; blocker = o }))) l)
+      pub blocked_kept : IsKeptAt j (list_at lists l)
+          (list_at (set lists l (set (list_at lists l) j (record { clause = w.clause; blocker = o }))) l)
       blocked_kept =
           let b : Watcher = record { clause = w.clause; blocker = o } in
           rw (get_or-set_same lists l (set (list_at lists l) j b) [] code)
-          (record { same = length-set (list_at lists l) j b; begins = λ k d lt. get_or-set_other (list_at lists l) j k b d (omega arith) })
+          (record {
+            same = length-set (list_at lists l) j b;
+            begins = λ k d lt. get_or-set_other (list_at lists l) j k b
+                d (omega arith);
+          })
 
-      pub blocked_true : Contains (literals t.entries) o → (d : Watcher) → IsTrueIn t.entries (clause_at clauses (get_or (list_at (set lists l (set (list_at lists l) j (record { clause = w.clause; blocker = o }))) l) j d).clause)
+      pub blocked_true : Contains (literals t.entries) o → (d : Watcher)
+          → IsTrueIn t.entries (clause_at clauses
+          (get_or (list_at (set lists l (set (list_at lists l) j (record { clause = w.clause; blocker = o }))) l) j
+          d).clause)
       blocked_true true' d =
           let b : Watcher = record { clause = w.clause; blocker = o } in
-          rw (get_or-set_same lists l (set (list_at lists l) j b) [] code, get_or-set_same (list_at lists l) j b d place) (o, other_there, true')
+          rw (
+            get_or-set_same lists l (set (list_at lists l) j b) [] code,
+            get_or-set_same (list_at lists l) j b d place,
+          ) (o, other_there, true')
 
-    pub turns : (next : ℕ) → Contains (clause_at clauses w.clause) next → next ≢ o → ¬ (Contains (literals t.entries) (opposite_of next)) → Contains (literals t.entries) (opposite_of l)
+    pub turns : (next : ℕ) → Contains (clause_at clauses w.clause) next → next ≢ o
+        → ¬ (Contains (literals t.entries) (opposite_of next)) → Contains (literals t.entries) (opposite_of l)
         → IsTurn lists pairs clauses (literals t.entries) l j w.clause o next
     turns next there ne unfalse untrue = record {
       place = place;

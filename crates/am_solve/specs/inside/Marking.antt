@@ -1,6 +1,5 @@
 -- Conflict analysis: the marked places of a trail stand for the literals of the current clause.
-use Rattle.std.specs.Prelude.{ℕ, ◌≡◌, ◌≢◌, ◌+◌, ◌<◌, ◌≤◌, Bool, true, false, List, [], drop, length, map, take, ◌-◌}
-use Rattle.std.specs.Prelude.{All, Contains, slice_index, slice_index_or, ◌⊎◌, Ok, None, IsSome}
+use Rattle.std.specs.Prelude.{ℕ, ◌≡◌, ◌≢◌, ◌+◌, ◌<◌, ◌≤◌, Bool, true, false, List, [], drop, length, map, take, ◌-◌, All, Contains, slice_index, slice_index_or, ◌⊎◌, Ok, None, IsSome}
 use Rattle.std.specs.List.{count_by}
 use Rattle.std.specs.List.Sorted.{IsStrictlyIncreasing}
 use Rattle.am_lit.specs.Literal.{opposite_of, variable_of}

@@ -1,6 +1,5 @@
 -- What the search keeps true between trail, watches, clauses and log.
-use Rattle.std.specs.Prelude.{ℕ, ◌≡◌, ◌<◌, ◌≤◌, List, [], ◌++◌, All, Contains, length, slice_index_or, Option, Some}
-use Rattle.std.specs.Prelude.{None}
+use Rattle.std.specs.Prelude.{ℕ, ◌≡◌, ◌<◌, ◌≤◌, List, [], ◌++◌, All, Contains, length, slice_index_or, Option, Some, None}
 use Rattle.am_lit.specs.Clause.{IsNormal}
 use Rattle.am_lit.specs.Literal.{variable_of}
 use Rattle.am_lit.specs.SearchLaws.{IsFalseIn}

@@ -8,7 +8,8 @@ use Rattle.am_watch.proofs.looks.first_open.Goals as goal
 
 pub loop-l-preserved : goal.loop-l-preserved
 loop-l-preserved c =
-    All-seen (λ m. Contains (literals c.args.trail.now.entries) (opposite_of m)) c.args.clause.now c.loop-l.l-index c.l-item.result (omega arith) c.l-item.is c.loop-l.invariant
+    All-seen (λ m. Contains (literals c.args.trail.now.entries) (opposite_of m)) c.args.clause.now c.loop-l.l-index
+    c.l-item.result (omega arith) c.l-item.is c.loop-l.invariant
     (c.is_false.ensures.yes c.if-not-is_false.false)
 
 pub returns-clause-none : goal.returns-clause-none

@@ -8,4 +8,5 @@ pub propagate-requires-clause-holds : goal.propagate-requires-clause-holds
 propagate-requires-clause-holds c =
     let t = c.args.trail.now in
     let e : Entry = record { literal = c.args.l; level = t.level + 1; reason = None } in
-    rw c.decide.ensures (holds_decide c.args.watch.now (c.args.formula.now.clauses ++ c.args.learnt.now) t e c.requires.holds c.requires.head refl)
+    rw c.decide.ensures (holds_decide c.args.watch.now (c.args.formula.now.clauses ++ c.args.learnt.now) t e
+    c.requires.holds c.requires.head refl)

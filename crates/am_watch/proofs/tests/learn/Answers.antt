@@ -7,4 +7,6 @@ propagate-requires-clause-holds c =
     let clauses = c.args.formula.now.clauses in
     let t = c.args.trail.now in
     rw (c.in_ok-push.ensures.ok, ← append_assoc clauses c.args.learnt.now (c.args.lits.now ∷ []), c.back_to.ensures)
-    (c.in_ok-add.ensures.ok (clauses ++ c.args.learnt.now) _ (holds_back c.args.watch.now (clauses ++ c.args.learnt.now) t 0 c.requires.holds c.known.ensures (omega arith)) c.requires.variables)
+    (c.in_ok-add.ensures.ok (clauses ++ c.args.learnt.now) _
+    (holds_back c.args.watch.now (clauses ++ c.args.learnt.now) t 0 c.requires.holds c.known.ensures (omega arith))
+    c.requires.variables)

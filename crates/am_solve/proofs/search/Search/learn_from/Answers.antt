@@ -5,8 +5,7 @@ use Rattle.am_lit.specs.Literal.{opposite_of, variable_of}
 use Rattle.am_chain.specs.declared.chain.Step.{Step}
 use Rattle.am_trail.specs.Trails.{literals}
 use Rattle.am_trail.specs.Trails.{upto}
-use Rattle.am_solve.proofs.Learning.{clause_derived, clause_new, clause_normal, clause_over, kept_false, keeps_back}
-use Rattle.am_solve.proofs.Learning.{keeps_learn, level_le, level_low, place_inside, settled_there}
+use Rattle.am_solve.proofs.Learning.{clause_derived, clause_new, clause_normal, clause_over, kept_false, keeps_back, keeps_learn, level_le, level_low, place_inside, settled_there}
 use Rattle.am_solve.proofs.Branching.{value_below}
 use Rattle.am_solve.proofs.Ready.{ready_kept}
 use Rattle.am_solve.proofs.search.Search.learn_from.Goals as goal

@@ -4,7 +4,8 @@ use Rattle.am_watch.proofs.Sweeping.{true_more, true_cut, true_all}
 use Rattle.am_watch.proofs.watches.Watches.look_at_fresh.Goals as goal
 
 pub returns-in_err-look-clause-extends : goal.returns-in_err-look-clause-extends
-returns-in_err-look-clause-extends c = Extends-trans (c.args.given.now ++ c.args.learnt.now) c.args.trail.now c.loop-k.trail c.look.new.trail c.loop-k.invariant.extends c.look.ensures.extends
+returns-in_err-look-clause-extends c = Extends-trans (c.args.given.now ++ c.args.learnt.now) c.args.trail.now
+    c.loop-k.trail c.look.new.trail c.loop-k.invariant.extends c.look.ensures.extends
 
 pub loop-k-preserved-in-Stays : goal.loop-k-preserved-in-Stays
 loop-k-preserved-in-Stays c =
@@ -14,7 +15,8 @@ loop-k-preserved-in-Stays c =
     record {
       holds = c.in_ok-look.ensures.holds;
       extends = Extends-trans clauses c.args.trail.now c.loop-k.trail c.look.new.trail i.extends c.look.ensures.extends;
-      done = true_more clauses c.loop-k.trail c.look.new.trail c.look.ensures.extends c.loop-k.self.fresh.items c.look.new.self.fresh.items c.loop-k.k v.0 i.done v.1;
+      done = true_more clauses c.loop-k.trail c.look.new.trail c.look.ensures.extends c.loop-k.self.fresh.items
+          c.look.new.self.fresh.items c.loop-k.k v.0 i.done v.1;
     }
 
 pub loop-k-preserved : goal.loop-k-preserved
@@ -25,11 +27,15 @@ loop-k-preserved c =
     record {
       holds = c.in_ok-look.ensures.holds;
       extends = Extends-trans clauses c.args.trail.now c.loop-k.trail c.look.new.trail i.extends c.look.ensures.extends;
-      done = true_cut clauses c.loop-k.trail c.look.new.trail c.look.ensures.extends c.loop-k.self.fresh.items c.look.new.self.fresh.items c.loop-k.k v i.done;
+      done = true_cut clauses c.loop-k.trail c.look.new.trail c.look.ensures.extends c.loop-k.self.fresh.items
+          c.look.new.self.fresh.items c.loop-k.k v i.done;
     }
 
 pub returns-in-Conflicts-clause-extends : goal.returns-in-Conflicts-clause-extends
-returns-in-Conflicts-clause-extends c = Extends-trans (c.args.given.now ++ c.args.learnt.now) c.args.trail.now c.loop-k.trail c.look.new.trail c.loop-k.invariant.extends c.look.ensures.extends
+returns-in-Conflicts-clause-extends c = Extends-trans (c.args.given.now ++ c.args.learnt.now) c.args.trail.now
+    c.loop-k.trail c.look.new.trail c.loop-k.invariant.extends c.look.ensures.extends
 
 pub returns-clause-looked : goal.returns-clause-looked
-returns-clause-looked c = true_all (c.args.given.now ++ c.args.learnt.now) c.loop-k.self.fresh.items c.loop-k.trail.entries c.loop-k.k (omega (arith, c.loop-k-test.false, c.loop-k.self.fresh.ok.0)) c.loop-k.invariant.done
+returns-clause-looked c = true_all (c.args.given.now ++ c.args.learnt.now) c.loop-k.self.fresh.items
+    c.loop-k.trail.entries c.loop-k.k (omega (arith, c.loop-k-test.false, c.loop-k.self.fresh.ok.0))
+    c.loop-k.invariant.done

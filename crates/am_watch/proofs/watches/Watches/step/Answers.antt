@@ -11,7 +11,9 @@ returns-clause-holds c =
     let t = c.args.trail.now in
     let u = c.sweep.new.trail in
     let d : Entry = record { literal = 0; level = 0; reason = None } in
-    rw c.pass.ensures (passed c.sweep.new.self.lists c.sweep.new.self.pairs.items c.sweep.new.self.fresh.items clauses u c.in_ok-i.ensures.holds c.opposite-l.result d c.known-2.ensures
+    rw c.pass.ensures (passed c.sweep.new.self.lists c.sweep.new.self.pairs.items c.sweep.new.self.fresh.items clauses u
+    c.in_ok-i.ensures.holds c.opposite-l.result d c.known-2.ensures
     (head_below clauses t u c.sweep.ensures.extends c.sweep.ensures.head c.requires.head)
-    (head_literal clauses t u c.opposite-l.result c.literal.result c.sweep.ensures.extends c.sweep.ensures.head c.requires.head (rw c.head.ensures at c.literal.ensures) c.opposite-l.ensures d)
+    (head_literal clauses t u c.opposite-l.result c.literal.result c.sweep.ensures.extends c.sweep.ensures.head
+    c.requires.head (rw c.head.ensures at c.literal.ensures) c.opposite-l.ensures d)
     (rw c.in_default.is at c.in_ok-i.ensures.swept))
