@@ -1,0 +1,106 @@
+-- Laws of acceptance: each outcome has one verdict, and what is accepted is right.
+use Rattle.std.specs.Prelude.{ℕ, ◌≡◌, ◌⊎◌, Bool, List, [], length, take, slice_get, Some, All, Err}
+use Rattle.am_bv.specs.declared.term.Term.{Term}
+use Rattle.am_chain.specs.declared.chain.Chain.{Chain}
+use Rattle.am_chain.specs.Replay.{Derives, EndsEmpty, LogFault, Refutes, replay}
+use Rattle.am_domain.specs.Question.{IsAbsent, IsBest, IsSound}
+use Rattle.am_domain.specs.Examples.{IsTrueExample, NoneIsCloser, NoneSatisfies}
+use Rattle.am_problem.specs.Examples.{IsNegative, IsPositive, negatives_of, positive_of, positives_of}
+use Rattle.am_problem.specs.Problem.{Problem, question_of}
+use Rattle.am_problem.specs.declared.examples.Negative.{Negative}
+use Rattle.am_problem.specs.declared.examples.Positive.{Positive}
+use Rattle.am_query.specs.Acceptance.{IsAccepted, IsExcluded, IsFault, IsGiven, each_is, refuted}
+use Rattle.am_query.specs.Formulas.{circuit_of}
+use Rattle.am_query.specs.Transformers.{IsTransformerOf}
+use Rattle.am_query.specs.Turns.{AreRows, IsCandidate, IsTrace, after_trace}
+use Rattle.am_query.specs.declared.fault.Fault.{Fault}
+use Rattle.am_query.specs.declared.fault.Fault.TheVariants.{BadChain, NotEmpty}
+use Rattle.am_query.specs.declared.outcome.Outcome.{Outcome}
+use Rattle.am_query.specs.declared.outcome.Outcome.TheVariants.{Absent, Best, Conflicts, Turns}
+use Rattle.am_query.specs.declared.query.Query.TheVariants.{Fit, Precise, Sound}
+use Rattle.am_query.specs.declared.turn.Turn.{Turn}
+
+-- ---- verdicts
+
+-- an outcome isn't both accepted and at fault, and has one fault at most
+abbrev pub VerdictsAreUnique : Type 0
+VerdictsAreUnique = (folding : Bool) (p : Problem) (o : Outcome) →
+    (IsAccepted folding p o → (f : Fault) → ¬ IsFault folding p o f)
+    × ((f g : Fault) → IsFault folding p o f → IsFault folding p o g → f ≡ g)
+
+-- of each condition on terms and examples, whether it holds
+pub record AreDecided (p : Problem) : Type 0 where
+  pub given : (start : ℕ) (t : Term) → IsGiven p start t ⊎ (¬ IsGiven p start t)
+  pub true : (e : Positive) → let is = IsTrueExample (question_of p) (positive_of p e) in is ⊎ (¬ is)
+  pub excluded : (t : List Term) (e : Negative) → IsExcluded p t e ⊎ (¬ IsExcluded p t e)
+
+-- where the conditions are decided, an outcome is accepted or has a fault
+abbrev pub VerdictsExist : Type 0
+VerdictsExist = (folding : Bool) (p : Problem) → AreDecided p → (o : Outcome) →
+    IsAccepted folding p o ⊎ ((f : Fault) × IsFault folding p o f)
+
+-- a condition on each item passes where all items meet it, and fails with the number of the first that doesn't
+abbrev pub ItemsAreTestedInTurn : Type 1
+ItemsAreTestedInTurn = (A : Type 0) (Good : A → Type 0) (fault : ℕ → Fault) (items : List A) →
+    (All Good items → (each_is Good fault 0 items).Passes)
+    × ((i : ℕ) (item : A) → All Good (take i items) → slice_get items i ≡ Some item → ¬ Good item →
+    (each_is Good fault 0 items).Fails (fault i))
+
+-- a refutation fails with its first fault, and, where it has none, where it doesn't end with the empty clause
+abbrev pub LogsAreTestedInTurn : Type 0
+LogsAreTestedInTurn = (j : ℕ) (clauses derived : List (List ℕ)) (log : List Chain) →
+    ((bad : LogFault) → replay clauses [] log ≡ Err bad →
+    (refuted j clauses log).Fails (BadChain j bad.chain bad.fault.step bad.fault.why))
+    × (Derives clauses log derived → ¬ EndsEmpty derived → (refuted j clauses log).Fails (NotEmpty j))
+
+-- ---- what is accepted is right
+
+-- what refuted formulas of a problem say
+pub record RefutationsMean (folding : Bool) (p : Problem) : Type 0 where
+  pub sound : (t : List Term) (log : List Chain) → IsTransformerOf p t →
+      Refutes (circuit_of folding p (Sound t)).clauses log → IsSound (question_of p) t
+  pub none : (positives : List Positive) (negatives : List Negative) (log : List Chain) →
+      All (IsPositive p) positives → All (IsNegative p) negatives →
+      Refutes (circuit_of folding p (Fit positives negatives)).clauses log →
+      NoneSatisfies (question_of p) (positives_of p positives) (negatives_of p negatives)
+  pub closest : (t : List Term) (positives : List Positive) (negatives : List Negative) (log : List Chain) →
+      IsTransformerOf p t →
+      All (IsPositive p) positives → All (IsNegative p) negatives →
+      Refutes (circuit_of folding p (Precise t positives negatives)).clauses log →
+      NoneIsCloser (question_of p) t (positives_of p positives) (negatives_of p negatives)
+
+-- an outcome has a term for each start, and rows of the problem
+abbrev pub FitsInto : Problem → Outcome → Type 0
+FitsInto p (Best t trace sound_log best_log) = (length t ≡ length p.starts) × AreRows p (after_trace trace)
+FitsInto p (Absent trace log) = AreRows p (after_trace trace)
+FitsInto p (Turns trace) = Unit {0}
+FitsInto p (Conflicts trace asked log) = Unit {0}
+
+-- what an outcome says of transformers
+abbrev pub IsRight : Problem → Outcome → Type 0
+IsRight p (Best t trace sound_log best_log) = IsBest (question_of p) t
+IsRight p (Absent trace log) = IsAbsent (question_of p)
+IsRight p (Turns trace) = ⊥
+IsRight p (Conflicts trace asked log) = ⊥
+
+-- an accepted outcome is best or absent, and rightly so
+abbrev pub AcceptedIsRight : Type 0
+AcceptedIsRight = (folding : Bool) (p : Problem) → RefutationsMean folding p → (o : Outcome) → FitsInto p o →
+    IsAccepted folding p o → IsRight p o
+
+-- ---- what a synthesis shows is accepted
+
+-- with a valid trace: a transformer that satisfies the examples after it, and two refutations
+abbrev pub BestIsAccepted : Type 0
+BestIsAccepted = (folding : Bool) (p : Problem) (t : List Term) (trace : List Turn) (sound_log best_log : List Chain) →
+    let s = after_trace trace in
+    IsTrace p trace → IsCandidate p s t →
+    Refutes (circuit_of folding p (Sound t)).clauses sound_log →
+    Refutes (circuit_of folding p (Precise t s.positives s.negatives)).clauses best_log →
+    IsAccepted folding p (Best t trace sound_log best_log)
+
+-- with a valid trace: a refutation of the positive examples after it
+abbrev pub AbsentIsAccepted : Type 0
+AbsentIsAccepted = (folding : Bool) (p : Problem) (trace : List Turn) (log : List Chain) →
+    IsTrace p trace → Refutes (circuit_of folding p (Fit (after_trace trace).positives [])).clauses log →
+    IsAccepted folding p (Absent trace log)

@@ -1,0 +1,11 @@
+pub mod Formulas
+pub mod Witnesses
+pub mod QueryLaws
+pub mod Transformers
+pub mod Queries
+pub mod Answers
+pub mod Turns
+pub mod Acceptance
+pub mod TurnLaws
+pub mod AcceptanceLaws
+pub mod inside

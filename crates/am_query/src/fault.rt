@@ -1,0 +1,25 @@
+//! Why an outcome isn't accepted.
+
+use am_chain::Why;
+
+/// Why an outcome isn't accepted. Numbers count from 0.
+#[derive(Clone, Copy, PartialEq, Eq, Debug)]
+pub enum Fault {
+    /// It says neither that a transformer is best nor that none is sound.
+    Unfinished,
+    /// The term of this field isn't given by a tree from its start.
+    TermOutside(u32),
+    /// The positive example with this number isn't true.
+    PositiveFalse(u32),
+    /// The negative example with this number isn't valid, or the terms don't satisfy it.
+    NegativeFalse(u32),
+    /// A chain of a refutation isn't valid.
+    BadChain {
+        refutation: u32,
+        chain: u32,
+        step: u32,
+        why: Why,
+    },
+    /// The last clause of this refutation isn't there or isn't empty.
+    NotEmpty(u32),
+}
