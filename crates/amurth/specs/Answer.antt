@@ -1,45 +1,51 @@
 -- What is written for a problem.
-use Rattle.std.specs.Prelude.{◌≡◌, ℕ, ◌⊎◌, List, ◌∷◌, ◌++◌, decimal, codes, flat_map, map, None, Some}
-use Rattle.std.specs.declared.option.Option.{Option}
-use Rattle.am_bv.specs.declared.term.Term.{Term, fold-Term}
-use Rattle.am_bv.specs.declared.term.Term.TheOpen.{Term-F, Const, Field, Node}
-use Rattle.am_domain.specs.Question.{Question, IsBest, IsAbsent}
-use Rattle.amurth.specs.Asked.{asked}
-use Rattle.amurth.specs.Choices.{tuple_at}
-use Rattle.amurth.specs.Domains.{meaning_of}
-use Rattle.amurth.specs.Names.{op_name}
-use Rattle.amurth.specs.Problem.{Problem, fields_of, productions_of}
-use Rattle.amurth.specs.Spelling.{field_letter}
+use Rattle.std.specs.Prelude.{◌≡◌, ℕ, ◌⊎◌, List, [], ◌∷◌, codes, decimal, flat_map, length, map}
+use Rattle.am_all.specs.AllBest.{AreAllBest}
+use Rattle.am_bv.specs.declared.term.Term.{Term}
+use Rattle.am_domain.specs.Question.{IsAbsent, IsBest}
+use Rattle.am_problem.specs.Problem.{Problem, question_of}
+use Rattle.am_syntax.specs.Canonical.{line, lines}
+use Rattle.am_syntax.specs.Readers.{Words}
+use Rattle.am_syntax.specs.Spelling.{letter_code, term_words}
+use Rattle.am_syntax.specs.declared.limits.Letter.TheVariants.{F}
+use Rattle.am_syntax.specs.declared.refusal.Refusal.{Refusal}
+use Rattle.am_tree.specs.Trees.{terms_of}
+use Rattle.am_tree.specs.declared.tree.Tree.{Tree}
+use Rattle.amurth.specs.Refusals.{refusal_line, unbuilt_line}
+use Rattle.amurth.specs.declared.command.Command.{Command}
+use Rattle.amurth.specs.declared.command.Command.TheVariants.{List as ListCommand, Synth}
 
--- what a problem asks: values of its domain that cover the operation, by one production for each field
-abbrev pub question_of : Problem → Question
-question_of p =
-    asked p.width (meaning_of p.kind) p.operation (map (productions_of p.rules) p.starts)
+-- a term over fields
+abbrev pub field_words : Term → Words
+field_words t = term_words (letter_code F) t
 
-abbrev pub term_text_step : Term-F (List ℕ) → List ℕ
-term_text_step (Const c) = decimal c
-term_text_step (Field i) = field_letter ∷ decimal i
-term_text_step (Node op texts) = codes "(" ++ op_name op ++ flat_map (λ text. 32 ∷ text) texts ++ codes ")"
+abbrev pub term_row : Term → Words
+term_row t = codes "term" ∷ field_words t
 
--- a term over fields, with one space between its words but none inside a parenthesis
-unfoldable pub term_text : Term → List ℕ
-term_text t = fold-Term (List ℕ) term_text_step t
+-- terms on one line
+abbrev pub terms_row : List Term → Words
+terms_row terms = codes "terms" ∷ flat_map field_words terms
 
-abbrev pub term_line : Term → List ℕ
-term_line t = codes "term " ++ term_text t ++ codes "\n"
-
+-- best terms, a line for each
 abbrev pub best_text : List Term → List ℕ
-best_text terms = codes "answer best\n" ++ flat_map term_line terms
+best_text terms = lines ((codes "answer" ∷ codes "best" ∷ []) ∷ map term_row terms)
 
 abbrev pub none_text : List ℕ
-none_text = codes "answer none\n"
+none_text = line (codes "answer" ∷ codes "none" ∷ [])
 
--- the text for the tuple with a number, or for none
-abbrev pub text_of_best : List (List Term) → Option ℕ → List ℕ
-text_of_best choices None = none_text
-text_of_best choices (Some number) = best_text (tuple_at choices number)
+-- how many tuples of trees there are, and a line of terms for each
+abbrev pub list_text : Problem → List (List Tree) → List ℕ
+list_text p tuples =
+    lines ((codes "best" ∷ decimal (length tuples) ∷ []) ∷ map (λ ts. terms_row (terms_of p.rules p.starts ts)) tuples)
 
--- best terms, a line for each field, or that there are no sound ones
-abbrev pub IsAnswerOf : Problem → List ℕ → Type 0
-IsAnswerOf p written =
-    ((terms : List Term) × IsBest (question_of p) terms × (written ≡ best_text terms)) ⊎ (IsAbsent (question_of p) × (written ≡ none_text))
+-- with `synth` best terms, or that no terms are sound; with `list` all tuples of trees whose terms are best
+abbrev pub IsAnswerOf : Command → Problem → List ℕ → Type 0
+IsAnswerOf Synth p written =
+    ((terms : List Term) × IsBest (question_of p) terms × (written ≡ best_text terms))
+    ⊎ (IsAbsent (question_of p) × (written ≡ none_text))
+IsAnswerOf ListCommand p written = (tuples : List (List Tree)) × AreAllBest p tuples × (written ≡ list_text p tuples)
+
+-- the line of a problem that isn't small, for this reason
+abbrev pub declined_line : Command → Refusal → List ℕ
+declined_line Synth r = unbuilt_line
+declined_line ListCommand r = refusal_line r

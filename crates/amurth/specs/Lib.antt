@@ -1,15 +1,5 @@
-pub mod Domains
-pub mod Choices
-pub mod Numbered
-pub mod Asked
-pub mod Problem
-pub mod Names
-pub mod Numerals
-pub mod Spelling
-pub mod Built
-pub mod Shown
 pub mod Answer
 pub mod Command
-pub mod Status
+pub mod Refusals
 pub mod Run
-pub mod Reading
+pub mod Status

@@ -1,10 +1,33 @@
-//! The words of a command line.
+//! The words of a command line, and the commands that they call for.
 
-ghost use Rattle.std.specs.Prelude.{◌≡◌, ◌<◌, [], ◌∷◌, ◌++◌, ◌↔◌, length, map, drop, slice_get, string_bytes, IsTrue, IfOk, OnOk, OnErr, codes};
-ghost use Rattle.amurth.specs.Command.{IsSynth};
+ghost use Rattle.std.specs.Prelude.{◌≡◌, ◌<◌, [], ◌∷◌, ◌++◌, length, map, drop, slice_get, string_bytes};
+ghost use Rattle.std.specs.Prelude.{IfOk, MatchOption, OnErr, OnOk};
+ghost use Rattle.amurth.specs.Command.{IsCommand, name_of};
+ghost use Rattle.amurth.specs.declared.command.Command.{Command as Named};
 
 use std::alloc::{AllocError, Global};
 use std::marker::Model;
+
+/// What a run is asked to do.
+#[derive(Clone, Copy, PartialEq, Eq, Debug)]
+pub enum Command {
+    /// Write best terms for a problem.
+    Synth,
+    /// Write all tuples of trees of a problem whose terms are best.
+    List,
+}
+
+impl Command {
+    /// The word that calls for the command.
+    pub fn name(self) -> &'static [u8]
+        ensures { result.now ≡ name_of self }
+    {
+        match self {
+            Command::Synth => b"synth",
+            Command::List => b"list",
+        }
+    }
+}
 
 /// The words of a command line, without the program's name.
 #[derive(Drop)]
@@ -54,12 +77,28 @@ impl CommandWords {
         &self.words[i]
     }
 
-    /// Whether the words are the command `synth`.
-    pub fn is_synth(&self) -> bool
-        ensures { IsTrue result ↔ IsSynth self.now }
+    /// The command that the words call for.
+    pub fn command(&self) -> Option<Command>
+        ensures { MatchOption result ((c : Named) → ¬ IsCommand self.now c) (IsCommand self.now) }
     {
-        self.len() == 1 && is_word(self.get(0), b"synth")
+        if self.len() != 1 {
+            return None;
+        }
+        named(self.get(0))
     }
+}
+
+/// The command of this name.
+fn named(word: &[u8]) -> Option<Command>
+    ensures { MatchOption result ((c : Named) → ¬ (word.now ≡ name_of c)) (λ c. word.now ≡ name_of c) }
+{
+    if word == Command::Synth.name() {
+        return Some(Command::Synth);
+    }
+    if word == Command::List.name() {
+        return Some(Command::List);
+    }
+    None
 }
 
 /// The words of a command line: all arguments but the first, which is the program's name, in order.
@@ -80,10 +119,4 @@ fn copies_of(alloc: Global, arguments: &[String]) -> Result<CommandWords, AllocE
         words.push(argument.as_bytes())?;
     }
     Ok(words)
-}
-
-fn is_word(word: &[u8], name: &[u8]) -> bool
-    ensures { IsTrue result ↔ (word.now ≡ name.now) }
-{
-    word == name
 }

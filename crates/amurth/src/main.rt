@@ -1,31 +1,23 @@
 //! Amurth synthesises best abstract transformers.
 #![tactic(auto)]
 
-mod answer;
-mod bounds;
-mod choices;
-mod closed;
 mod command;
-mod enumeration;
-mod names;
-mod numerals;
-mod problem;
-mod reader;
-mod refusal;
+mod limits;
+mod refusals;
+mod response;
+mod running;
 mod status;
-mod terms;
 #[cfg(test)]
 mod tests;
-mod top;
-mod words;
+mod texts;
 
 use am_io::{StdSink, StdSource};
 use command::{CommandWords, command_words};
+use running::run;
 use std::alloc::{AllocError, Global};
 use std::env::{self, Args};
 use std::io::ErrorKind;
 use std::process::ExitCode;
-use top::run;
 
 fn main(rt: HostRuntime) -> ExitCode {
     let words = match env::args(&rt) {

@@ -1,8 +1,10 @@
+//! Runs over sources and sinks in memory.
+
 ghost use Rattle.std.specs.Prelude.{◌≡◌, ◌<◌, IfOk};
 
-use crate::command::{CommandWords, command_words};
+use crate::command::{Command, CommandWords, command_words};
+use crate::running::run;
 use crate::status::Status;
-use crate::top::run;
 use am_io::{MemorySink, MemorySource};
 use std::alloc::{AllocError, Global};
 use std::test::Fail;
@@ -41,110 +43,37 @@ fn sink_of(alloc: Global, step: usize, failing: u32) -> Result<MemorySink, Alloc
     MemorySink::new(alloc, 100, step, [failing].to_vec(alloc)?)
 }
 
+/// How a run of a command on a problem ended, and what it wrote.
+fn said(alloc: Global, command: &str, problem: &str) -> Result<String, AllocError> {
+    let text = format!(in alloc; "amurth 1 width {problem} end")?;
+    let mut input = source_of(alloc, &text, 1000, 99)?;
+    let mut output = sink_of(alloc, 1000, 99)?;
+    let words = words_of(alloc, command)?;
+    let status = run(alloc, &words, &mut input, &mut output);
+    let written = String::from_utf8_lossy(alloc, output.taken())?;
+    format!(in alloc; "{status:?} {written}")
+}
+
+/// Commands, problems, and what is written for them, as an independent reference has it.
+static RUNS: &str = "\
+synth 2 operation 1 (not x0) domain u-interval start L H depth 1 turns 40 conflicts 1 rule L (not f1) (not f0) 0 rule H (not f0) 3 = Done answer best|term (not f1)|term (not f0)|
+synth 2 operation 1 x0 domain u-interval start L H depth 1 turns 40 conflicts 1 rule L f1 rule H f0 = Done answer none|
+list 2 operation 1 x0 domain u-interval start L H depth 1 turns 40 conflicts 1 rule L (and f0 1) (and f0 2) rule H f1 = Done best 2|terms (and f0 1) f1|terms (and f0 2) f1|
+list 2 operation 1 x0 domain u-interval start L H depth 1 turns 40 conflicts 1 rule L (and f0 1) (and f0 1) rule H f1 = Done best 2|terms (and f0 1) f1|terms (and f0 1) f1|
+list 2 operation 1 x0 domain u-interval start L H depth 1 turns 40 conflicts 1 rule L f1 rule H f0 = Done best 0|
+list 2 operation 1 x0 domain u-interval start S S depth 4 turns 0 conflicts 1 rule S f0 f1 (and S S) = Refused refused Many 2090916|
+synth 2 operation 1 x0 domain u-interval start S S depth 4 turns 0 conflicts 1 rule S f0 f1 (and S S) = Refused refused Unbuilt 0|
+list 8 operation 2 x0 domain u-interval start S S depth 1 turns 0 conflicts 1 rule S f0 = Refused refused Wide 32|
+list 2 operation 1 x1 = Refused refused Name 29|";
+
 #[test]
 fn problems_get_their_answers(rt: HostRuntime) -> Result<(), Fail> {
-    let alloc = rt.alloc();
-    let unbuilt = "refused Unbuilt 0\n";
-    let table = [
-        (
-            "2 operation 1 (not x0) domain u-interval start L H",
-            "rule L (not f1) (not f0) 0 rule H (not f0) 3",
-            COMPLEMENT_ANSWER,
-        ),
-        (
-            "2 operation 1 (not x0) domain u-interval start L H",
-            "rule L rule H 3",
-            "answer none\n",
-        ),
-        (
-            "2 operation 1 x0 domain u-interval start L H",
-            "rule L f1 rule H f0",
-            "answer none\n",
-        ),
-        (
-            "3 operation 1 (add x0 1) domain u-interval start L H",
-            "rule L (add f0 1) 0 rule H (add f1 1) 7",
-            "answer best\nterm 0\nterm 7\n",
-        ),
-        (
-            "2 operation 1 (neg x0) domain s-interval start L H",
-            "rule L (neg f1) 2 rule H (neg f0) 1",
-            "answer best\nterm 2\nterm 1\n",
-        ),
-        (
-            "3 operation 1 (and x0 5) domain known-bits start Z O",
-            "rule O (and f1 5) f1 0 rule Z (or f0 2) f0 0",
-            "answer best\nterm (or f0 2)\nterm (and f1 5)\n",
-        ),
-        (
-            "3 operation 1 (mul x0 x0) domain parity start P",
-            "rule P 3 f0 1",
-            "answer best\nterm f0\n",
-        ),
-        (
-            "3 operation 1 (add x0 3) domain congruence start M R",
-            "rule M f0 0 (and f0 1) rule R (add f1 3) f1",
-            "answer best\nterm f0\nterm (add f1 3)\n",
-        ),
-        (
-            "4 operation 1 x0 domain u-interval start L H",
-            "rule L f0 rule H f1",
-            unbuilt,
-        ),
-        (
-            "2 operation 2 (add x0 x1) domain u-interval start L H",
-            "rule L (add f0 f2) 0 rule H (add f1 f3) 3",
-            unbuilt,
-        ),
-        (
-            "2 operation 1 x0 domain parity start P P",
-            "rule P f0",
-            unbuilt,
-        ),
-    ];
-    for (problem, rules, written) in table {
-        let text = format!(in alloc;
-            "amurth 1 width {problem} depth 1 turns 40 conflicts 1 {rules} end"
-        )?;
-        let mut input = source_of(alloc, &text, 1000, 99)?;
-        let mut output = sink_of(alloc, 1000, 99)?;
-        let words = words_of(alloc, "synth")?;
-        let status = run(alloc, &words, &mut input, &mut output);
-        assert_eq!(rt; status == Status::Refused, written == unbuilt, "{problem}");
-        assert_eq!(rt; status == Status::Done, written != unbuilt, "{problem}");
-        assert_eq!(rt; output.taken(), written.as_bytes(), "{problem}");
-    }
-    Ok(())
-}
-
-#[test]
-fn incomparable_terms_are_both_best(rt: HostRuntime) -> Result<(), Fail> {
-    let alloc = rt.alloc();
-    let text =
-        "amurth 1 width 2 operation 1 x0 domain u-interval start L H depth 1 turns 40 conflicts 1 rule L (and f0 1) (and f0 2) rule H f1 end";
-    let mut input = source_of(alloc, text, 1000, 99)?;
-    let mut output = sink_of(alloc, 1000, 99)?;
-    let words = words_of(alloc, "synth")?;
-    assert_eq!(rt; run(alloc, &words, &mut input, &mut output), Status::Done);
-    let first = output.taken() == b"answer best\nterm (and f0 1)\nterm f1\n".as_slice();
-    let second = output.taken() == b"answer best\nterm (and f0 2)\nterm f1\n".as_slice();
-    assert!(rt; first || second);
-    Ok(())
-}
-
-#[test]
-fn other_texts_are_refused(rt: HostRuntime) -> Result<(), Fail> {
-    let alloc = rt.alloc();
-    for text in ["", "amurth 1\n", "amurth 2\n", "amurth\t1\n", "end\n"] {
-        let mut input = source_of(alloc, text, 4, 99)?;
-        let mut output = sink_of(alloc, 4, 99)?;
-        let words = words_of(alloc, "synth")?;
-        assert_eq!(rt;
-            run(alloc, &words, &mut input, &mut output),
-            Status::Refused,
-            "{text}"
-        );
-        assert_eq!(rt; output.taken(), b"refused Unbuilt 0\n".as_slice(), "{text}");
+    for line in RUNS.lines() {
+        let (asked, expected) = line.split_once(" = ").ok_or("no outcome")?;
+        let (command, problem) = asked.split_once(' ').ok_or("no command")?;
+        let said = said(rt.alloc(), command, problem)?;
+        let shown = said.replace(rt.alloc(), "\n", "|")?;
+        assert_eq!(rt; shown.as_str(), expected, "{asked}");
     }
     Ok(())
 }
@@ -154,7 +83,7 @@ fn long_inputs_are_refused(rt: HostRuntime) -> Result<(), Fail> {
     let alloc = rt.alloc();
     for (length, line) in [
         ((1 << 26) + 1, "refused Long 67108864\n"),
-        (1 << 26, "refused Unbuilt 0\n"),
+        (1 << 26, "refused Syntax 67108864\n"),
     ] {
         let bytes = vec![in alloc; b' '; length]?;
         let mut input = MemorySource::new(bytes, 1 << 20, Vec::new(alloc));
@@ -263,6 +192,6 @@ fn the_first_argument_is_no_word(rt: HostRuntime) -> Result<(), Fail> {
     }
     let words = command_words(rt.alloc(), &arguments)?;
     assert_eq!(rt; words.len(), 1);
-    assert!(rt; words.is_synth());
+    assert_eq!(rt; words.command(), Some(Command::Synth));
     Ok(())
 }

@@ -1,0 +1,6 @@
+pub mod Choices
+pub mod Listed
+pub mod AllBest
+pub mod Sizes
+pub mod Theorems
+pub mod inside

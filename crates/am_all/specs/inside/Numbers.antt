@@ -1,0 +1,12 @@
+-- Tuples of words by their numbers.
+use Rattle.std.specs.Prelude.{ℕ, zero, suc, ◌+◌, ◌*◌, ◌/◌, ◌%◌, ◌^◌, List, [], ◌∷◌}
+
+-- the tuple of so many words with a number: its digits in base 2^w, the first word being the least
+abbrev pub words_at : ℕ → ℕ → ℕ → List ℕ
+words_at w zero n = []
+words_at w (suc count) n = (n % 2 ^ w) ∷ words_at w count (n / 2 ^ w)
+
+-- the number of a tuple of words
+abbrev pub number_of : ℕ → List ℕ → ℕ
+number_of w [] = 0
+number_of w (c ∷ words) = number_of w words * 2 ^ w + c
