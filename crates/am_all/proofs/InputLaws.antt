@@ -15,7 +15,7 @@ use Rattle.am_domain.specs.Question.{AreMembers}
 use Rattle.am_domain.specs.Tuple.{IsTuple}
 use Rattle.am_problem.specs.Kinds.{meaning_of}
 use Rattle.am_problem.specs.Problem.{Problem, question_of}
-use Rattle.am_all.specs.Choices.{choices}
+use Rattle.am_tree.specs.Listed.{choices}
 use Rattle.am_all.specs.declared.cases.Case.{Case}
 use Rattle.am_all.specs.declared.cases.Outcome.{Outcome}
 use Rattle.am_all.specs.declared.values.Value.{Value}

@@ -9,7 +9,7 @@ use Rattle.am_problem.specs.Problem.{Problem, question_of}
 use Rattle.am_tree.specs.declared.tree.Tree.{Tree}
 use Rattle.am_tree.specs.Trees.{AreTrees, terms_of}
 use Rattle.am_all.specs.AllBest.{GivesBest}
-use Rattle.am_all.specs.Listed.{tuples_of}
+use Rattle.am_tree.specs.Listed.{tuples_of}
 use Rattle.am_all.specs.declared.cases.Case.{Case}
 use Rattle.am_all.specs.declared.word_set.WordSet.{WordSet}
 use Rattle.am_all.specs.inside.Leaders.{AreFacts, AreLeaders, IsLeading, IsLed, IsResult, all_numbers, tree_numbers}

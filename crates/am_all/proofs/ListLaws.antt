@@ -10,7 +10,7 @@ use Rattle.am_problem.specs.Problem.{Problem, question_of}
 use Rattle.am_tree.specs.declared.tree.Tree.{Tree}
 use Rattle.am_tree.specs.Trees.{AreTrees, terms_of}
 use Rattle.am_all.specs.AllBest.{GivesBest, Keeps, drops, ends, keeps}
-use Rattle.am_all.specs.Listed.{tuples_of}
+use Rattle.am_tree.specs.Listed.{tuples_of}
 use Rattle.am_all.specs.Theorems.{HasEachBest, HasOnlyBest, IsEmptyWhereAbsent}
 use Rattle.am_all.proofs.Lists.{any-cases, any-contains, any-here, any-none, any-there}
 use Rattle.am_all.proofs.TreeLaws.{tuples-listed}

@@ -4,7 +4,7 @@ use Rattle.std.proofs.Common.{subst, arith}
 use Rattle.std.specs.Prelude.{All, Contains}
 use Rattle.std.specs.List.{AllZip, Any, flat_map}
 use Rattle.std.proofs.lemmas.List.Elements.{All-cons, All-head, All-nil, All-tail}
-use Rattle.am_all.specs.Choices.{choices}
+use Rattle.am_tree.specs.Listed.{choices}
 use Rattle.am_all.proofs.Lists.{any-append, any-cases, any-contains, any-here, any-left, any-none, any-right, any-there}
 
 -- some item of a list made of lists

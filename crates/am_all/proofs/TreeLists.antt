@@ -12,8 +12,7 @@ use Rattle.am_tree.specs.declared.grammar.Production.TheVariants.{Node}
 use Rattle.am_tree.specs.declared.tree.Tree.{Tree}
 use Rattle.am_tree.specs.Slots.{numbered}
 use Rattle.am_tree.specs.Trees.{Rules, tree}
-use Rattle.am_all.specs.Choices.{choices}
-use Rattle.am_all.specs.Listed.{trees_by, trees_of}
+use Rattle.am_tree.specs.Listed.{choices, trees_by, trees_of}
 use Rattle.am_all.specs.inside.Levels.{AreLevels, IsTold}
 
 -- the trees of productions that are numbered from a number on

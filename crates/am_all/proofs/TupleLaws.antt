@@ -15,8 +15,7 @@ use Rattle.am_problem.specs.Problem.{Problem}
 use Rattle.am_tree.specs.declared.tree.Tree.{Tree}
 use Rattle.am_tree.specs.Trees.{AreTrees, Derives, Rules, term_of, terms_of}
 use Rattle.am_tree.proofs.Laws.{zip-lengths}
-use Rattle.am_all.specs.Choices.{choices}
-use Rattle.am_all.specs.Listed.{trees_of}
+use Rattle.am_tree.specs.Listed.{choices, trees_of}
 use Rattle.am_all.specs.declared.candidates.Candidate.{Candidate}
 use Rattle.am_all.specs.declared.cases.Case.{Case}
 use Rattle.am_all.specs.declared.word_set.WordSet.{WordSet}

@@ -4,7 +4,7 @@ use Rattle.am_domain.specs.Question.{IsBest}
 use Rattle.am_problem.specs.Problem.{Problem, question_of}
 use Rattle.am_tree.specs.declared.tree.Tree.{Tree}
 use Rattle.am_tree.specs.Trees.{terms_of}
-use Rattle.am_all.specs.Listed.{tuples_of}
+use Rattle.am_tree.specs.Listed.{tuples_of}
 
 -- the second list has, in the same order, those items of the first for which P holds
 pub data Keeps {A : Type 0} (P : A → Type 0) : List A → List A → Type 0 where

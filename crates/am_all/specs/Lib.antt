@@ -1,5 +1,3 @@
-pub mod Choices
-pub mod Listed
 pub mod AllBest
 pub mod Sizes
 pub mod Theorems

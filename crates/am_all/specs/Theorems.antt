@@ -7,7 +7,7 @@ use Rattle.am_problem.specs.Problem.{Problem, question_of}
 use Rattle.am_tree.specs.declared.tree.Tree.{Tree}
 use Rattle.am_tree.specs.Trees.{AreTrees, Derives, Rules, terms_of}
 use Rattle.am_all.specs.AllBest.{AreAllBest, GivesBest}
-use Rattle.am_all.specs.Listed.{trees_of, tuples_of}
+use Rattle.am_tree.specs.Listed.{trees_of, tuples_of}
 
 -- the listed trees are those that derive
 abbrev pub ListsDerivedTrees : Type 0

@@ -2,7 +2,7 @@
 
 ghost use Rattle.std.specs.Prelude.{◌≡◌, ◌∷◌, ◌++◌, [], map, replicate, IfOk, OnOk};
 ghost use Rattle.std.specs.List.{flat_map};
-ghost use Rattle.am_all.specs.Choices.{choices};
+ghost use Rattle.am_tree.specs.Listed.{choices};
 
 use am_bv::Row;
 use std::alloc::{AllocError, Global};

@@ -5,7 +5,7 @@ ghost use Rattle.std.specs.List.{Any};
 ghost use Rattle.am_problem.specs.Kinds.{fields_of};
 ghost use Rattle.am_tree.specs.Trees.{AreTrees};
 ghost use Rattle.am_all.specs.AllBest.{GivesBest, Keeps};
-ghost use Rattle.am_all.specs.Listed.{tuples_of};
+ghost use Rattle.am_tree.specs.Listed.{tuples_of};
 ghost use Rattle.am_all.specs.inside.Cases.{AreCases};
 ghost use Rattle.am_all.specs.inside.Leaders.{AreFacts, AreJoined, AreLeaders, AreTuples, IsLeading, IsLed};
 ghost use Rattle.am_all.specs.inside.Leaders.{IsResult, IsTupleOf, all_numbers, tree_numbers};

@@ -2,8 +2,7 @@
 
 ghost use Rattle.std.specs.Prelude.{ℕ, suc, ◌≡◌, ◌+◌, false, List, [], All, IfOk, length, map};
 ghost use Rattle.am_tree.specs.declared.tree.Tree.{Tree};
-ghost use Rattle.am_all.specs.Choices.{choices};
-ghost use Rattle.am_all.specs.Listed.{trees_by, trees_of};
+ghost use Rattle.am_tree.specs.Listed.{choices, trees_by, trees_of};
 ghost use Rattle.am_all.specs.inside.Levels.{AreLevels, IsTold};
 
 use am_bv::Row;

@@ -13,8 +13,8 @@
 //! }
 //! ```
 //!
-//! The list stands in `specs/AllBest.antt`, the order in `specs/Listed.antt` and `specs/Choices.antt`, the sizes in
-//! `specs/Sizes.antt`. What is best stands in `am_domain`.
+//! The list stands in `specs/AllBest.antt`, the sizes in `specs/Sizes.antt`. The order of trees and tuples stands in
+//! `am_tree`'s `specs/Listed.antt`, and what is best in `am_domain`.
 //!
 //! # What is proved
 //!

@@ -3,8 +3,7 @@
 ghost use Rattle.std.specs.Prelude.{◌≡◌, ◌<◌, ◌++◌, IfOk, IsTrue, OnOk, length, map};
 ghost use Rattle.am_tree.specs.Grammars.{is_production};
 ghost use Rattle.am_tree.specs.Trees.{tree};
-ghost use Rattle.am_all.specs.Choices.{choices};
-ghost use Rattle.am_all.specs.Listed.{trees_by, trees_of};
+ghost use Rattle.am_tree.specs.Listed.{choices, trees_by, trees_of};
 ghost use Rattle.am_all.specs.inside.Levels.{AreLevels, IsTold};
 
 use crate::choices::{choices, slices};

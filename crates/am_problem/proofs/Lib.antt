@@ -12,6 +12,7 @@ pub mod Nesting
 pub mod Named
 pub mod Formed
 pub mod TextLaws
+pub mod DraftLaws
 pub mod Indexing
 pub mod Cutting
 pub mod Inputs

@@ -38,10 +38,11 @@ use Rattle.am_problem.proofs.Undefined.{names_spelled}
 -- ---- the words of the rows are tokens
 
 -- a byte or more of words, and no other
-abbrev is_plain : Word → Bool
+abbrev pub is_plain : Word → Bool
 is_plain v = (nat_lt 0 (length v) && list_all is_word_byte v) && list_all is_allowed v
 
-plain_token : (v : Word) → is_plain v ≡ true → IsToken v
+-- such a row of bytes is a token
+pub plain_token : (v : Word) → is_plain v ≡ true → IsToken v
 plain_token v h =
     let parts = and_parts (nat_lt 0 (length v) && list_all is_word_byte v) (list_all is_allowed v) h in
     let word = and_parts (nat_lt 0 (length v)) (list_all is_word_byte v) parts.0 in
@@ -53,7 +54,7 @@ kind_plain UInterval = refl
 kind_plain _ = refl
 
 -- a key word and a number
-number_tokens : (key : Word) (n : ℕ) → is_plain key ≡ true → n < 2 ^ 64 → AreTokens (key ∷ decimal n ∷ [])
+pub number_tokens : (key : Word) (n : ℕ) → is_plain key ≡ true → n < 2 ^ 64 → AreTokens (key ∷ decimal n ∷ [])
 number_tokens key n plain small = (plain_token key plain, (number_is_token n small, tt))
 
 names_tokens : (vs : List Word) → AreNames vs → AreTokens vs
@@ -83,7 +84,7 @@ module _ (scope : Scope) (is : IsScope scope) where
       )
 
 -- two lists of rows
-both_tokens : (rows more : List Words) → AllByRecursion AreTokens rows → AllByRecursion AreTokens more →
+pub both_tokens : (rows more : List Words) → AllByRecursion AreTokens rows → AllByRecursion AreTokens more →
     AllByRecursion AreTokens (rows ++ more)
 both_tokens [] more h k = k
 both_tokens (row ∷ rows) more h k = (h.0, both_tokens rows more h.1 k)
@@ -121,7 +122,7 @@ header_tokens l is =
     )
 
 -- the words of a problem's rows are tokens
-rows_tokens : (l : Lines) → IsLines l → AllByRecursion AreTokens (problem_rows l)
+pub rows_tokens : (l : Lines) → IsLines l → AllByRecursion AreTokens (problem_rows l)
 rows_tokens l is =
     let fields = scope_at l.header.width F (l.header.inputs * fields_of l.kind) in
     let over : IsScope fields =
@@ -137,11 +138,11 @@ rows_tokens l is =
 
 -- ---- the words of the rows are the problem's
 
-abbrev joined : List Words → Words
+abbrev pub joined : List Words → Words
 joined rows = flat_map (λ ws. ws) rows
 
 -- the joined words of two lists of rows
-joined-append : (rows more : List Words) → joined (rows ++ more) ≡ joined rows ++ joined more
+pub joined-append : (rows more : List Words) → joined (rows ++ more) ≡ joined rows ++ joined more
 joined-append rows more = flat_map-append (λ ws. ws) rows more
 
 assume_spelled : (w n : ℕ) (o : Option Term) →
@@ -196,7 +197,7 @@ unfolding budgets number
 budgets_spelled b = refl
 
 -- the words of a problem's rows are its spelling
-rows_spelled : (l : Lines) → joined (problem_rows l) ≡ problem.spell l
+pub rows_spelled : (l : Lines) → joined (problem_rows l) ≡ problem.spell l
 unfolding problem rules
 rows_spelled l =
     let end : List Words = (codes "end" ∷ []) ∷ [] in

@@ -42,19 +42,22 @@ sized_parts p q true heavy h = absurd cc
 sized_parts p q false true h = absurd cc
 sized_parts p q false false h = (refl, refl, cc)
 
-sized_ok : (p q : Problem) → sized p ≡ Ok q → IsFormed p → IsProblem q × (p ≡ q)
+-- a problem within the limits of slots and load is the one that was tested
+pub sized_ok : (p q : Problem) → sized p ≡ Ok q → IsFormed p → IsProblem q × (p ≡ q)
 sized_ok p q h formed =
     let k = sized_parts p q (nat_lt MOST_SLOTS (slots_of p)) (nat_lt MOST_LOAD (load_of p)) h in
     (subst IsProblem k.2 (record { formed = formed; slots = ltb-false _ _ k.0; load = ltb-false _ _ k.1 }), k.2)
 
-sized_back : (p : Problem) → IsProblem p → sized p ≡ Ok p
+-- a problem within all limits passes
+pub sized_back : (p : Problem) → IsProblem p → sized p ≡ Ok p
 sized_back p is =
     ap (λ b. cond b (Err (Slots (slots_of p))) (cond (nat_lt MOST_LOAD (load_of p)) (Err (Load (load_of p))) (Ok p))) (le-ltb _ _ is.slots)
     ∙ ap (λ b. cond b (Err (Load (load_of p))) (Ok p)) (le-ltb _ _ is.load)
 
 -- ---- a problem and its text
 
-settled_ok : (l : Lines) (p : Problem) (place : Option ℕ) → settled_by l place ≡ Ok p → (place ≡ None) × (sized (numbered l) ≡ Ok p)
+-- where a draft settles to a problem, no name was undefined, and its lines are within the limits
+pub settled_ok : (l : Lines) (p : Problem) (place : Option ℕ) → settled_by l place ≡ Ok p → (place ≡ None) × (sized (numbered l) ≡ Ok p)
 settled_ok l p (Some place) h = absurd cc
 settled_ok l p None h = (refl, h)
 

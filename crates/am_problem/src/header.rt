@@ -115,9 +115,13 @@ impl<'a> Judge<'a> for DomainName {
     }
 }
 
-/// Takes the name of a domain.
+/// Takes a domain's name.
+///
+/// # Errors
+///
+/// The next token is no domain's name: `Name` where it is a word, else `Syntax`. The cursor stays.
 #[tactic(auto, unfolding(crate::specs::Grammar::domain))]
-fn take_domain(text: &mut Cursor<'_>) -> Result<Kind, Cause>
+pub fn take_domain(text: &mut Cursor<'_>) -> Result<Kind, Cause>
     ensures { Gives (λ kind. kind) result text.old text.new domain.read }
 {
     take(text, &DomainName)

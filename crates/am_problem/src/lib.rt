@@ -49,13 +49,14 @@ mod text;
 pub use draft::Draft;
 pub use examples::{Negative, Negatives, Positive, Positives, Transformer};
 pub use generator::{LAST_PROBLEM, make_problem};
+pub use header::take_domain;
 pub use kind::Kind;
 pub use limits::{MOST_CONFLICTS, MOST_INPUTS, MOST_LOAD, MOST_NODES, MOST_SLOTS, MOST_TURNS};
 pub use parts::{Name, Names};
 pub use printing::{canonical_texts_are_read, print_problem};
 pub use problem::Problem;
 pub use rows::{Inputs, ShortRow, WordRow};
-pub use text::{problem_at, read_problem, texts_are_settled};
+pub use text::{problem_at, read_problem, take_problem, texts_are_settled};
 
 #[cfg(test)]
 mod examples_tests;

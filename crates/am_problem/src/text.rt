@@ -61,8 +61,13 @@ fn first_undefined(text: &mut Cursor<'_>, rules: &[Rule<'_>]) -> Option<usize>
     None
 }
 
-/// A problem up to its `end`, and the first name that no rule has.
-fn read_draft<'a>(alloc: Global, text: &mut Cursor<'a>) -> Result<Draft<'a>, Failure>
+/// Takes a problem up to its `end`, and notes the first name that no rule has.
+///
+/// # Errors
+///
+/// `Refused`: the first token that no problem has here. The cursor stands at it. `NoMemory`: the
+/// cursor stands at some token that the call had reached.
+pub fn take_problem<'a>(alloc: Global, text: &mut Cursor<'a>) -> Result<Draft<'a>, Failure>
     ensures { Makes seen_draft result text.old text.new draft }
 {
     let mut ahead = text.fork();
@@ -80,7 +85,7 @@ fn read_draft<'a>(alloc: Global, text: &mut Cursor<'a>) -> Result<Draft<'a>, Fai
 pub fn problem_at<'a>(alloc: Global, c: &mut Cursor<'a>) -> Result<Draft<'a>, ReadError>
     ensures { MakesAt seen_draft result c.old c.new draft }
 {
-    let read = read_draft(alloc, c);
+    let read = take_problem(alloc, c);
     placed(read, &*c)
 }
 

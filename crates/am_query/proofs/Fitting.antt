@@ -1,5 +1,5 @@
 -- The fit: what its formula says of transformers, in both directions.
-use Rattle.std.proofs.Common.{◌≡◌, ℕ, ◌+◌, ◌*◌, ◌<◌, ◌≤◌, Bool, true, List, [], ◌∷◌, All, map, length, refl, ◌∙◌, ap, subst, arith}
+use Rattle.std.proofs.Common.{◌≡◌, ℕ, ◌+◌, ◌*◌, ◌≤◌, Bool, true, List, [], ◌∷◌, All, map, length, refl, sym, ◌∙◌, ap, subst, arith}
 use Rattle.std.specs.Prelude.{IsTrue}
 use Rattle.std.proofs.lemmas.List.Elements.{All-nil, All-cons, All-head, All-tail, All-map}
 use Rattle.std.proofs.lemmas.List.FromFn.{length-range_with_len}
@@ -23,10 +23,11 @@ use Rattle.am_problem.specs.declared.examples.Positive.{Positive}
 use Rattle.am_query.specs.declared.query.Query.TheVariants.{Fit}
 use Rattle.am_query.specs.inside.Weights.{example_weight}
 use Rattle.am_query.specs.Formulas.{circuit_of, covered, encoding_of, fit, uncovered}
+use Rattle.am_query.specs.QueryLaws.{FitsAreChosen, FitsAreReached, UnsatisfiedFitHasNone}
 use Rattle.am_query.specs.Transformers.{IsTransformerOf, Suits}
 use Rattle.am_query.proofs.Builds.{Builds, Builds-bind, Builds-weaker, Reaches-weaker}
 use Rattle.am_query.proofs.Steps.{Builds-each, Means-each, Reaches-each}
-use Rattle.am_query.proofs.Blocks.{encodes}
+use Rattle.am_query.proofs.Blocks.{encodes, tuple_derivable}
 use Rattle.am_query.proofs.Covering.{Builds-covered, Builds-uncovered, Means-covered, Means-uncovered, Reaches-covered, Reaches-uncovered}
 
 -- ---- the circuits of steps
@@ -37,13 +38,6 @@ pub means_satisfied : {A : Type 0} {v : ℕ → Bool} {m : Step A} {P : A → Ty
 means_satisfied {v = v} {m = m} folding means h =
     let met = (Satisfies-built v folding (m (place_of (start folding))).events).0 h in
     means.holds (place_of (start folding)) met.0 met.1
-
--- a step that can be reached makes a circuit that can be satisfied
-pub reached_satisfiable : {A : Type 0} {v : ℕ → Bool} {m : Step A} {Q : (ℕ → Bool) → Place → A → Type 0} (folding : Bool) → IsTrue (v 0) →
-    Reaches v m (place_of (start folding)) Q → IsSatisfiable (built (start folding) (m (place_of (start folding))).events).clauses
-reached_satisfiable {v = v} {m = m} folding t r =
-    let first : 0 < 1 = omega arith in
-    (r.values, (Satisfies-built r.values folding (m (place_of (start folding))).events).1 (r.below 0 first ∙ t, r.meets))
 
 -- truth values that are true at the true variable
 abbrev pub all_true : ℕ → Bool
@@ -163,6 +157,31 @@ module _ (p : Problem) (formed : IsFormed p) (pos : List Positive) (neg : List N
     pub fit_found : (v : ℕ → Bool) → Satisfies v (circuit_of folding p (Fit pos neg)).clauses → IsChosen v
     fit_found v h = means_satisfied folding (Means-fit v) h
 
+    -- each transformer that satisfies the examples is chosen by truth values that satisfy it
+    fit_reached : (terms : List Term) → IsTransformerOf p terms → Suits p terms pos neg →
+        (v : ℕ → Bool) × Satisfies v (circuit_of folding p (Fit pos neg)).clauses × (chosen v ≡ terms)
+    fit_reached terms is suits =
+        let first = place_of (start folding) in
+        let r = Reaches-fit terms is suits all_true refl first refl in
+        let met = (Satisfies-built r.values folding (fit p pos neg first).events).1 (r.below 0 (omega arith), r.meets) in
+        (r.values, met, ap (terms_of e) (r.given.1.decodes r.values (λ x l. refl)) ∙ sym is.give)
+
     -- where a transformer satisfies the examples, it can be satisfied
-    pub fit_satisfiable : (terms : List Term) → IsTransformerOf p terms → Suits p terms pos neg → IsSatisfiable (circuit_of folding p (Fit pos neg)).clauses
-    fit_satisfiable terms is suits = reached_satisfiable folding refl (Reaches-fit terms is suits all_true refl (place_of (start folding)) refl)
+    pub fit_satisfiable : (terms : List Term) → IsTransformerOf p terms → Suits p terms pos neg →
+        IsSatisfiable (circuit_of folding p (Fit pos neg)).clauses
+    fit_satisfiable terms is suits = let found = fit_reached terms is suits in (found.0, found.1)
+
+-- ---- the laws
+
+pub fits_are_chosen : FitsAreChosen
+fits_are_chosen folding p pos neg are v h =
+    let chosen = fit_found p are.formed pos neg are.positives_stored are.negatives_stored folding v h in
+    (tuple_derivable p are.formed (decoded (encoding_of p) v) chosen.serves.derived, chosen.suits)
+
+pub fits_are_reached : FitsAreReached
+fits_are_reached folding p pos neg are terms is suits =
+    fit_reached p are.formed pos neg are.positives_stored are.negatives_stored folding terms is suits
+
+pub unsatisfied_fit_has_none : UnsatisfiedFitHasNone
+unsatisfied_fit_has_none folding p pos neg are unsat terms is suits =
+    unsat (fit_satisfiable p are.formed pos neg are.positives_stored are.negatives_stored folding terms is suits)

@@ -24,9 +24,9 @@ pub mod SoundAnswers
 pub mod Loads
 pub mod PreciseAnswers
 pub mod KeptPlaces
-pub mod Different
 pub mod TurnBound
 pub mod Shown
 pub mod Verdicts
+pub mod Refuted
 pub mod OutcomeLaws
 pub mod Laws

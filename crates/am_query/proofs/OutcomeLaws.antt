@@ -18,6 +18,7 @@ use Rattle.am_query.specs.Turns.{after_trace}
 use Rattle.am_query.specs.declared.fault.Fault.{Fault}
 use Rattle.am_query.specs.declared.fault.Fault.TheVariants.{NegativeFalse, PositiveFalse, TermOutside}
 use Rattle.am_query.specs.declared.outcome.Outcome.TheVariants.{Absent, Best, Conflicts, Turns}
+use Rattle.am_query.proofs.Refuted.{refutations_mean}
 use Rattle.am_query.proofs.Shown.{traces_show}
 use Rattle.am_query.proofs.Verdicts.{each_passes}
 
@@ -65,7 +66,8 @@ module _ (p : Problem) where
         give = cc (here.1.gives, rest.give);
       }
 
-  derivable : (terms : List Term) → length terms ≡ length p.starts → (terms_inside p terms).Passes →
+  -- terms that are given, one for each start, are a transformer
+  pub derivable : (terms : List Term) → length terms ≡ length p.starts → (terms_inside p terms).Passes →
       IsTransformerOf p terms
   derivable terms same inside =
       let t = trees_of_given 0 p.starts terms same inside in
@@ -84,8 +86,9 @@ module _ (p : Problem) where
   inside terms are = subst (AreInside 0 p.starts) (sym are.give) (given_of_trees 0 p.starts are.trees are.derive)
 
 pub accepted_is_right : AcceptedIsRight
-accepted_is_right folding p mean (Best t trace sound_log best_log) fits passes =
+accepted_is_right folding p formed (Best t trace sound_log best_log) fits passes =
     let q = question_of p in
+    let mean = refutations_mean folding p formed in
     let s = after_trace trace in
     let derives = derivable p t fits.0 passes.0 in
     let positive = all_passed (IsTrueHere p) PositiveFalse 0 s.positives passes.1.0 in
@@ -98,14 +101,15 @@ accepted_is_right folding p mean (Best t trace sound_log best_log) fits passes =
     (All-map (IsValidExample q) (negative_of p) s.negatives valid)
     (All-map (Excludes q t) (negative_of p) s.negatives excludes)
     (mean.closest t s.positives s.negatives best_log derives fits.1.positives fits.1.negatives passes.1.1.1.1)
-accepted_is_right folding p mean (Absent trace log) fits passes =
+accepted_is_right folding p formed (Absent trace log) fits passes =
     let q = question_of p in
+    let mean = refutations_mean folding p formed in
     let s = after_trace trace in
     let positive = all_passed (IsTrueHere p) PositiveFalse 0 s.positives passes.0 in
     none_is_sound q (positives_of p s.positives) (All-map (IsTrueExample q) (positive_of p) s.positives positive)
     (mean.none s.positives [] log fits.positives (All-nil (IsNegative p)) passes.1)
-accepted_is_right folding p mean (Turns trace) fits passes = passes
-accepted_is_right folding p mean (Conflicts trace asked log) fits passes = passes
+accepted_is_right folding p formed (Turns trace) fits passes = passes
+accepted_is_right folding p formed (Conflicts trace asked log) fits passes = passes
 
 pub best_is_accepted : BestIsAccepted
 best_is_accepted folding p t trace sound_log best_log turns candidate sound best =

@@ -43,7 +43,7 @@ length-found None rest = omega arith
 length-found (Some x) rest = omega arith
 
 -- there are no more items at places than places
-length-at_places : {A : Type 0} (items : List A) (places : List ℕ) → length (at_places items places) ≤ length places
+pub length-at_places : {A : Type 0} (items : List A) (places : List ℕ) → length (at_places items places) ≤ length places
 length-at_places items [] = omega arith
 length-at_places items (i ∷ places) =
     omega (arith, length-found (slice_get items i) (at_places items places), length-at_places items places)

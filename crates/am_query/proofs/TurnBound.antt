@@ -1,28 +1,24 @@
 -- How long a trace can be: transformers that were tried don't come again.
-use Rattle.std.proofs.Common.{◌≡◌, ◌≢◌, ℕ, suc, ◌+◌, ◌*◌, ◌<◌, ◌≤◌, List, [], ◌∷◌, ◌++◌, length, map, sym, ◌∙◌, subst}
+use Rattle.std.proofs.Common.{◌≢◌, ℕ, suc, ◌+◌, ◌*◌, ◌<◌, ◌≤◌, List, [], ◌∷◌, ◌++◌, length, map, subst}
 use Rattle.std.proofs.Common.{arith, length-append}
-use Rattle.std.specs.List.{All, Contains}
-use Rattle.std.proofs.lemmas.List.{get_or_append_left, length-map, map-append}
+use Rattle.std.specs.List.{All}
+use Rattle.std.proofs.lemmas.List.{get_or_append_left, map-append}
 use Rattle.std.proofs.lemmas.List.Elements.{All-append, All-contains, All-cons, All-nil, All-weaker, Contains-push}
 use Rattle.std.proofs.lemmas.Nat.{mul-le}
-use Rattle.am_lit.proofs.Laws.{Contains-map}
 use Rattle.am_bv.specs.declared.term.Term.{Term}
 use Rattle.am_domain.specs.Examples.{Covers, Excludes}
 use Rattle.am_domain.specs.Question.{IsSound}
 use Rattle.am_domain.proofs.Laws.{sound_covers}
 use Rattle.am_problem.specs.Examples.{negative_of, negatives_of, positive_of, positives_of}
 use Rattle.am_problem.specs.Problem.{Problem, question_of}
+use Rattle.am_problem.proofs.Laws.{AreDifferent, different-append, different_transformers_are_few}
 use Rattle.am_tree.specs.Counts.{tuple_count}
-use Rattle.am_tree.specs.Listed.{tuples_of}
-use Rattle.am_tree.specs.Trees.{terms_of}
-use Rattle.am_tree.proofs.Laws.{tuples_are_counted, tuples_are_listed}
 use Rattle.am_query.specs.Transformers.{IsTransformerOf}
 use Rattle.am_query.specs.TurnLaws.{TurnsAreFew}
 use Rattle.am_query.specs.Turns.{AreTurns, after_turn, no_examples}
 use Rattle.am_query.specs.declared.state.State.{State}
 use Rattle.am_query.specs.declared.turn.Turn.{Turn}
 use Rattle.am_query.specs.declared.turn.Turn.TheVariants.{Negative as NegativeTurn, Positive as PositiveTurn}
-use Rattle.am_query.proofs.Different.{AreDifferent, different-append, few}
 
 -- what holds of all examples holds of all but the last, and of the last
 all_front : {A B : Type 0} (P : B → Type 0) (f : A → B) (xs : List A) (x : A) → All P (map f (xs ++ x ∷ [])) →
@@ -90,78 +86,67 @@ module _ (p : Problem) where
     unsound_tried : AreTried (CoversAll s) (λ t. ¬ IsSound (question_of p) t) unsound
     sound_tried : AreTried (ExcludesAll s) (IsSound (question_of p)) sound
 
-  module _ (listed : List (List Term)) (lists : (t : List Term) → IsTransformerOf p t → Contains listed t) where
-    -- they are different ones of those that derive
-    history_few : (s : State) (unsound sound : List (List Term)) → IsHistory s unsound sound →
-        length sound + length unsound ≤ length listed
-    history_few s unsound sound h =
-        let P = IsSound (question_of p) in
-        let differ : AreDifferent (sound ++ unsound) =
-        different-append sound unsound h.sound_tried.different h.unsound_tried.different
-        (All-weaker P (λ t. All (λ u. t ≢ u) unsound)
-        (λ t is. All-weaker (λ u. ¬ P u) (λ u. t ≢ u) (λ u is_not same. is_not (subst P same is))
-        unsound h.unsound_tried.kind)
-        sound h.sound_tried.kind) in
-        let derive : All (IsTransformerOf p) (sound ++ unsound) =
-        All-append (IsTransformerOf p) sound unsound h.sound_tried.derive h.unsound_tried.derive in
-        let most = few listed (sound ++ unsound) differ
-        (All-weaker (IsTransformerOf p) (Contains listed) lists (sound ++ unsound) derive) in
-        omega (arith, most, length-append sound unsound)
+  -- how many tuples of trees there are
+  abbrev most : ℕ
+  most = tuple_count p.rules p.starts p.depth
 
-    turns_few : (s : State) (turns : List Turn) (unsound sound : List (List Term)) → AreTurns p s turns →
-        IsHistory s unsound sound →
-        length turns + length sound + length unsound * (length listed + 1) ≤ length listed * (length listed + 1)
-    turns_few s [] unsound sound turns h =
-        let end = at_end (length listed) (length unsound) (length sound) (history_few s unsound sound h) in
-        omega (arith, end)
-    turns_few s (PositiveTurn t e kept ∷ ts) unsound sound turns h =
-        let now = turns.0 in
-        let after : State = after_turn s (PositiveTurn t e kept) in
-        let is_not : ¬ IsSound (question_of p) t =
-        λ is. now.1.fails (sound_covers (question_of p) t is (positive_of p e) now.1.true) in
-        let further : IsHistory after (t ∷ unsound) [] = record {
-          unsound_tried = one_more (CoversAll s) (CoversAll after) (λ u. ¬ IsSound (question_of p) u) unsound t
-              h.unsound_tried
-              now.0.derivable now.0.suits.covers is_not
-              (λ u. all_front (Covers (question_of p) u) (positive_of p) s.positives e)
-              (λ all. now.1.fails (all_last (Covers (question_of p) t) (positive_of p) s.positives e all));
-          sound_tried = none_tried (ExcludesAll after) (IsSound (question_of p));
-        } in
-        let rest = turns_few after ts (t ∷ unsound) [] turns.1 further in
-        let now_few = history_few s unsound sound h in
-        on_from_positive (length listed) (length unsound) (length sound) (length ts) now_few (omega (arith, rest))
-    turns_few s (NegativeTurn t e ∷ ts) unsound sound turns h =
-        let now = turns.0 in
-        let after : State = after_turn s (NegativeTurn t e) in
-        let further : IsHistory after unsound (t ∷ sound) = record {
-          unsound_tried = h.unsound_tried;
-          sound_tried = one_more (ExcludesAll s) (ExcludesAll after) (IsSound (question_of p)) sound t h.sound_tried
-              now.0.derivable now.0.suits.excludes now.1
-              (λ u. all_front (Excludes (question_of p) u) (negative_of p) s.negatives e)
-              (λ all. now.2.fails (all_last (Excludes (question_of p) t) (negative_of p) s.negatives e all));
-        } in
-        let rest = turns_few after ts unsound (t ∷ sound) turns.1 further in
-        omega (arith, rest)
+  -- they are different ones of those that derive
+  history_few : (s : State) (unsound sound : List (List Term)) → IsHistory s unsound sound →
+      length sound + length unsound ≤ most
+  history_few s unsound sound h =
+      let P = IsSound (question_of p) in
+      let differ : AreDifferent (sound ++ unsound) =
+      different-append sound unsound h.sound_tried.different h.unsound_tried.different
+      (All-weaker P (λ t. All (λ u. t ≢ u) unsound)
+      (λ t is. All-weaker (λ u. ¬ P u) (λ u. t ≢ u) (λ u is_not same. is_not (subst P same is))
+      unsound h.unsound_tried.kind)
+      sound h.sound_tried.kind) in
+      let derive : All (IsTransformerOf p) (sound ++ unsound) =
+      All-append (IsTransformerOf p) sound unsound h.sound_tried.derive h.unsound_tried.derive in
+      let few = different_transformers_are_few p (sound ++ unsound) differ derive in
+      omega (arith, few, length-append sound unsound)
 
--- the lists of terms of all tuples of trees are listed
-pub transformers_are_listed : (p : Problem) (t : List Term) → IsTransformerOf p t →
-    Contains (map (terms_of p.rules p.starts) (tuples_of p.rules p.starts p.depth)) t
-transformers_are_listed p t are =
-    let listed = tuples_are_listed p.rules p.starts p.depth are.trees are.derive in
-    subst (Contains (map (terms_of p.rules p.starts) (tuples_of p.rules p.starts p.depth))) (sym are.give)
-    (Contains-map (terms_of p.rules p.starts) (tuples_of p.rules p.starts p.depth) are.trees listed)
+  turns_few : (s : State) (turns : List Turn) (unsound sound : List (List Term)) → AreTurns p s turns →
+      IsHistory s unsound sound →
+      length turns + length sound + length unsound * (most + 1) ≤ most * (most + 1)
+  turns_few s [] unsound sound turns h =
+      let end = at_end most (length unsound) (length sound) (history_few s unsound sound h) in
+      omega (arith, end)
+  turns_few s (PositiveTurn t e kept ∷ ts) unsound sound turns h =
+      let now = turns.0 in
+      let after : State = after_turn s (PositiveTurn t e kept) in
+      let is_not : ¬ IsSound (question_of p) t =
+      λ is. now.1.fails (sound_covers (question_of p) t is (positive_of p e) now.1.true) in
+      let further : IsHistory after (t ∷ unsound) [] = record {
+        unsound_tried = one_more (CoversAll s) (CoversAll after) (λ u. ¬ IsSound (question_of p) u) unsound t
+            h.unsound_tried
+            now.0.derivable now.0.suits.covers is_not
+            (λ u. all_front (Covers (question_of p) u) (positive_of p) s.positives e)
+            (λ all. now.1.fails (all_last (Covers (question_of p) t) (positive_of p) s.positives e all));
+        sound_tried = none_tried (ExcludesAll after) (IsSound (question_of p));
+      } in
+      let rest = turns_few after ts (t ∷ unsound) [] turns.1 further in
+      let now_few = history_few s unsound sound h in
+      on_from_positive most (length unsound) (length sound) (length ts) now_few (omega (arith, rest))
+  turns_few s (NegativeTurn t e ∷ ts) unsound sound turns h =
+      let now = turns.0 in
+      let after : State = after_turn s (NegativeTurn t e) in
+      let further : IsHistory after unsound (t ∷ sound) = record {
+        unsound_tried = h.unsound_tried;
+        sound_tried = one_more (ExcludesAll s) (ExcludesAll after) (IsSound (question_of p)) sound t h.sound_tried
+            now.0.derivable now.0.suits.excludes now.1
+            (λ u. all_front (Excludes (question_of p) u) (negative_of p) s.negatives e)
+            (λ all. now.2.fails (all_last (Excludes (question_of p) t) (negative_of p) s.negatives e all));
+      } in
+      let rest = turns_few after ts unsound (t ∷ sound) turns.1 further in
+      omega (arith, rest)
 
 pub turns_are_few : TurnsAreFew
 turns_are_few p trace turns =
     let q = question_of p in
-    let tuples = tuples_of p.rules p.starts p.depth in
-    let listed = map (terms_of p.rules p.starts) tuples in
     let at_first : IsHistory p no_examples [] [] = record {
       unsound_tried = none_tried p (CoversAll p no_examples) (λ t. ¬ IsSound q t);
       sound_tried = none_tried p (ExcludesAll p no_examples) (IsSound q);
     } in
-    let most = turns_few p listed (transformers_are_listed p) no_examples trace [] [] turns at_first in
-    let count : length listed ≡ tuple_count p.rules p.starts p.depth =
-    length-map tuples (terms_of p.rules p.starts) ∙ tuples_are_counted p.rules p.starts p.depth in
-    let few : length trace ≤ length listed * (length listed + 1) = omega (arith, most) in
-    rw count at few
+    let few = turns_few p no_examples trace [] [] turns at_first in
+    omega (arith, few)

@@ -3,15 +3,15 @@ use Rattle.std.specs.Prelude.{ℕ, ◌≡◌, ◌⊎◌, Bool, List, [], length,
 use Rattle.am_bv.specs.declared.term.Term.{Term}
 use Rattle.am_chain.specs.declared.chain.Chain.{Chain}
 use Rattle.am_chain.specs.Replay.{Derives, EndsEmpty, LogFault, Refutes, replay}
-use Rattle.am_domain.specs.Question.{IsAbsent, IsBest, IsSound}
-use Rattle.am_domain.specs.Examples.{IsTrueExample, NoneIsCloser, NoneSatisfies}
-use Rattle.am_problem.specs.Examples.{IsNegative, IsPositive, negatives_of, positive_of, positives_of}
+use Rattle.am_domain.specs.Question.{IsAbsent, IsBest}
+use Rattle.am_domain.specs.Examples.{IsTrueExample}
+use Rattle.am_problem.specs.Examples.{positive_of}
+use Rattle.am_problem.specs.Limits.{IsFormed}
 use Rattle.am_problem.specs.Problem.{Problem, question_of}
 use Rattle.am_problem.specs.declared.examples.Negative.{Negative}
 use Rattle.am_problem.specs.declared.examples.Positive.{Positive}
 use Rattle.am_query.specs.Acceptance.{IsAccepted, IsExcluded, IsFault, IsGiven, each_is, refuted}
 use Rattle.am_query.specs.Formulas.{circuit_of}
-use Rattle.am_query.specs.Transformers.{IsTransformerOf}
 use Rattle.am_query.specs.Turns.{AreRows, IsCandidate, IsTrace, after_trace}
 use Rattle.am_query.specs.declared.fault.Fault.{Fault}
 use Rattle.am_query.specs.declared.fault.Fault.TheVariants.{BadChain, NotEmpty}
@@ -55,20 +55,6 @@ LogsAreTestedInTurn = (j : ℕ) (clauses derived : List (List ℕ)) (log : List 
 
 -- ---- what is accepted is right
 
--- what refuted formulas of a problem say
-pub record RefutationsMean (folding : Bool) (p : Problem) : Type 0 where
-  pub sound : (t : List Term) (log : List Chain) → IsTransformerOf p t →
-      Refutes (circuit_of folding p (Sound t)).clauses log → IsSound (question_of p) t
-  pub none : (positives : List Positive) (negatives : List Negative) (log : List Chain) →
-      All (IsPositive p) positives → All (IsNegative p) negatives →
-      Refutes (circuit_of folding p (Fit positives negatives)).clauses log →
-      NoneSatisfies (question_of p) (positives_of p positives) (negatives_of p negatives)
-  pub closest : (t : List Term) (positives : List Positive) (negatives : List Negative) (log : List Chain) →
-      IsTransformerOf p t →
-      All (IsPositive p) positives → All (IsNegative p) negatives →
-      Refutes (circuit_of folding p (Precise t positives negatives)).clauses log →
-      NoneIsCloser (question_of p) t (positives_of p positives) (negatives_of p negatives)
-
 -- an outcome has a term for each start, and rows of the problem
 abbrev pub FitsInto : Problem → Outcome → Type 0
 FitsInto p (Best t trace sound_log best_log) = (length t ≡ length p.starts) × AreRows p (after_trace trace)
@@ -83,9 +69,9 @@ IsRight p (Absent trace log) = IsAbsent (question_of p)
 IsRight p (Turns trace) = ⊥
 IsRight p (Conflicts trace asked log) = ⊥
 
--- an accepted outcome is best or absent, and rightly so
+-- what an accepted outcome of a problem says is right
 abbrev pub AcceptedIsRight : Type 0
-AcceptedIsRight = (folding : Bool) (p : Problem) → RefutationsMean folding p → (o : Outcome) → FitsInto p o →
+AcceptedIsRight = (folding : Bool) (p : Problem) → IsFormed p → (o : Outcome) → FitsInto p o →
     IsAccepted folding p o → IsRight p o
 
 -- ---- what a synthesis shows is accepted

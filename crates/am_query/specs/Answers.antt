@@ -1,6 +1,7 @@
 -- What the answers to the queries say.
-use Rattle.std.specs.Prelude.{ℕ, ◌≡◌, ◌≤◌, true, List, length}
+use Rattle.std.specs.Prelude.{ℕ, ◌≡◌, ◌^◌, ◌<◌, ◌≤◌, true, List, length}
 use Rattle.am_bv.specs.declared.term.Term.{Term}
+use Rattle.am_lit.specs.Clause.{IsFormula}
 use Rattle.am_chain.specs.declared.chain.Chain.{Chain}
 use Rattle.am_chain.specs.Replay.{Refutes}
 use Rattle.am_domain.specs.Question.{IsSound}
@@ -21,17 +22,25 @@ use Rattle.am_query.specs.declared.answers.SoundAnswer.TheVariants.{Fails, Holds
 use Rattle.am_query.specs.declared.query.Query.{Query}
 use Rattle.am_query.specs.declared.query.Query.TheVariants.{Fit, Precise, Sound}
 
+-- the clauses of the query's formula are normal, numbers of 31 bits name them, and it has fewer than 2^30 variables
+pub record IsNumbered (p : Problem) (q : Query) : Type 0 where
+  pub normal : IsFormula (circuit_of true p q).clauses (circuit_of true p q).vars
+  pub few_clauses : length (circuit_of true p q).clauses < 2 ^ 31
+  pub few_vars : (circuit_of true p q).vars < 2 ^ 30
+
 -- a log refutes the query's formula, with at most so many chains
 pub record IsRefuted (p : Problem) (q : Query) (limit : ℕ) (log : List Chain) : Type 0 where
   pub refutes : Refutes (circuit_of true p q).clauses log
   pub few : length log ≤ limit
   pub short : ChainsAreShort (circuit_of true p q).vars log
+  pub numbered : IsNumbered p q
 
 -- a log has exactly so many valid chains over the query's formula, whose clauses are new
 pub record IsSpentOn (p : Problem) (q : Query) (limit : ℕ) (log : List Chain) : Type 0 where
   pub many : length log ≡ limit
   pub progress : IsProgress (circuit_of true p q).clauses (circuit_of true p q).vars log
   pub short : ChainsAreShort (circuit_of true p q).vars log
+  pub numbered : IsNumbered p q
 
 -- ---- a fit
 

@@ -2,7 +2,7 @@
 use Rattle.std.specs.Prelude.{◌≡◌, ℕ, Bool, List, All}
 use Rattle.am_bv.specs.declared.term.Term.{Term}
 use Rattle.am_lit.specs.Truth.{IsSatisfiable, Satisfies}
-use Rattle.am_domain.specs.Examples.{Covers, Excludes, IsTrueExample, IsValidExample, NoneIsCloser}
+use Rattle.am_domain.specs.Examples.{Covers, Excludes, IsTrueExample, IsValidExample, NoneIsCloser, NoneSatisfies}
 use Rattle.am_domain.specs.Examples.{Positive as Example, Negative as NegativeExample}
 use Rattle.am_domain.specs.Question.{IsSound}
 use Rattle.am_problem.specs.Examples.{IsNegative, IsPositive, IsTransformer, negative_of, negatives_of, positive_of, positives_of}
@@ -14,6 +14,37 @@ use Rattle.am_query.specs.Formulas.{circuit_of}
 use Rattle.am_query.specs.Transformers.{IsTransformerOf, IsUncovered, Suits}
 use Rattle.am_query.specs.Witnesses.{IsCloser, chosen_negative, chosen_positive, chosen_terms}
 use Rattle.am_query.specs.declared.query.Query.TheVariants.{Fit, Precise, Sound}
+
+-- ---- fits
+
+-- examples of the problem
+pub record AreExamples (p : Problem) (positives : List Positive) (negatives : List Negative) : Type 0 where
+  pub formed : IsFormed p
+  pub positives_stored : All (IsPositive p) positives
+  pub negatives_stored : All (IsNegative p) negatives
+
+-- where truth values satisfy the formula of a fit, the terms that they choose are a transformer that satisfies the examples
+abbrev pub FitsAreChosen : Type 0
+FitsAreChosen = (folding : Bool) (p : Problem) (positives : List Positive) (negatives : List Negative) →
+    AreExamples p positives negatives →
+    (v : ℕ → Bool) → Satisfies v (circuit_of folding p (Fit positives negatives)).clauses →
+    IsTransformerOf p (chosen_terms p v) × Suits p (chosen_terms p v) positives negatives
+
+-- each transformer that satisfies the examples is chosen by truth values that satisfy the formula of the fit
+abbrev pub FitsAreReached : Type 0
+FitsAreReached = (folding : Bool) (p : Problem) (positives : List Positive) (negatives : List Negative) →
+    AreExamples p positives negatives →
+    (terms : List Term) → IsTransformerOf p terms → Suits p terms positives negatives →
+    (v : ℕ → Bool) × Satisfies v (circuit_of folding p (Fit positives negatives)).clauses × (chosen_terms p v ≡ terms)
+
+-- where no truth values satisfy the formula of a fit, no transformer satisfies the examples
+abbrev pub UnsatisfiedFitHasNone : Type 0
+UnsatisfiedFitHasNone = (folding : Bool) (p : Problem) (positives : List Positive) (negatives : List Negative) →
+    AreExamples p positives negatives →
+    ¬ IsSatisfiable (circuit_of folding p (Fit positives negatives)).clauses →
+    NoneSatisfies (question_of p) (positives_of p positives) (negatives_of p negatives)
+
+-- ---- soundness
 
 -- where truth values satisfy the formula of soundness, the terms fail the true example that they choose
 abbrev pub FailedExamplesAreChosen : Type 0
@@ -30,6 +61,8 @@ FailedExamplesAreReached = (folding : Bool) (p : Problem) → IsFormed p → (te
 abbrev pub UnsatisfiedSoundnessIsSound : Type 0
 UnsatisfiedSoundnessIsSound = (folding : Bool) (p : Problem) → IsFormed p → (terms : List Term) → IsTransformer p terms →
     ¬ IsSatisfiable (circuit_of folding p (Sound terms)).clauses → IsSound (question_of p) terms
+
+-- ---- precision
 
 -- terms and examples of the problem
 pub record IsComparison (p : Problem) (terms : List Term) (positives : List Positive) (negatives : List Negative) : Type 0 where

@@ -5,7 +5,6 @@ ghost use Rattle.std.specs.List.{range_with_len};
 ghost use Rattle.am_gate.specs.Circuit.{HasInputs, HasRoom, start};
 ghost use Rattle.am_gate.specs.Build.{Follows};
 ghost use Rattle.am_slot.specs.Template.{selectors_of};
-ghost use Rattle.am_tree.specs.Trees.{AreTrees, terms_of};
 ghost use Rattle.am_query.specs.Answers.{IsFitAnswer, IsFitSpent};
 ghost use Rattle.am_query.specs.Formulas.{encoding_of, fit};
 ghost use Rattle.am_query.specs.Queries.{AreFitted, input_count};
@@ -17,10 +16,9 @@ use crate::stated::{Stated, Variables, new_circuit};
 use crate::statements::Statements;
 use am_chain::soundness::refutations_are_sound;
 use am_gate::Circuit;
-use am_problem::{Negatives, Positives, Problem, Transformer};
+use am_problem::{Negatives, Positives, Problem};
 use am_slot::Template;
 use am_solve::{Answer, solve};
-use am_tree::{Grammar, Trees};
 use std::alloc::{AllocError, Global};
 
 /// Looks for a transformer that satisfies the examples.
@@ -46,10 +44,13 @@ pub fn fit(
     match solve(alloc, &stated.formula, stated.base.as_slice(), limit)? {
         Answer::Sat(assignment) => {
             let trees = template.decode(&assignment)?;
-            let term = terms(alloc, p.grammar(), &trees)?;
+            let term = p.grammar().terms_of(alloc, &trees)?;
             Ok(FitAnswer::Found(term))
         }
-        Answer::Unsat(log) => Ok(FitAnswer::Nothing(log)),
+        Answer::Unsat(log) => {
+            let kept = stated.refutation(alloc, &log)?;
+            Ok(FitAnswer::Nothing(kept))
+        }
         Answer::Spent(log) => Ok(FitAnswer::Spent(log)),
     }
 }
@@ -111,17 +112,4 @@ pub fn first_variables(alloc: Global, count: u32) -> Result<Variables, AllocErro
         variables.push(1 + i)?;
     }
     Ok(variables)
-}
-
-/// The terms of a tuple of trees.
-pub fn terms(alloc: Global, grammar: &Grammar, trees: &Trees) -> Result<Transformer, AllocError>
-    requires { AreTrees grammar.now.rules grammar.now.starts grammar.now.depth trees.now }
-    ensures { IfOk result (λ t. t ≡ terms_of grammar.now.rules grammar.now.starts trees.now) }
-{
-    let mut terms = Transformer::new(alloc);
-    for (i, tree) in trees.as_slice().iter().enumerate() {
-        let term = grammar.term_of(alloc, *grammar.starts.get(i), tree)?;
-        terms.push(term)?;
-    }
-    Ok(terms)
 }

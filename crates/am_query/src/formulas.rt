@@ -1,6 +1,6 @@
 //! The formulas of the queries.
 
-ghost use Rattle.std.specs.Prelude.{◌≡◌, ◌+◌, ◌≤◌, IfOk, true, false};
+ghost use Rattle.std.specs.Prelude.{◌≡◌, ◌+◌, ◌^◌, ◌<◌, ◌≤◌, IfOk, length, true, false};
 ghost use Rattle.am_problem.specs.Loads.{load_of};
 ghost use Rattle.am_query.specs.Formulas.{circuit_of};
 ghost use Rattle.am_query.specs.Queries.{IsQueryOf, input_count};
@@ -17,11 +17,13 @@ use std::alloc::{AllocError, Global};
 
 /// The formula of a query, made in a circuit that folds constants.
 ///
-/// Beside the true variable and the inputs it has at most as many gates as the problem's load.
+/// Beside the true variable and the inputs it has at most as many gates as the problem's load, and fewer than 2^31
+/// clauses.
 pub fn formula_of(alloc: Global, p: &Problem, q: &Query) -> Result<Formula, AllocError>
     requires { IsQueryOf p.now q.now }
     ensures clauses { IfOk result (λ f. f.clauses ≡ (circuit_of true p.now q.now).clauses) }
     ensures vars { IfOk result (λ f. f.vars ≡ (circuit_of true p.now q.now).vars) }
+    ensures few { IfOk result (λ f. length f.clauses < 2 ^ 31) }
     ensures gates { IfOk result (λ f. f.vars ≤ 1 + input_count p.now q.now + load_of p.now) }
 {
     p.keeps_limits();
@@ -31,11 +33,13 @@ pub fn formula_of(alloc: Global, p: &Problem, q: &Query) -> Result<Formula, Allo
 
 /// The formula of a query, made in a circuit that folds nothing.
 ///
-/// Beside the true variable and the inputs it has at most as many gates as the problem's load.
+/// Beside the true variable and the inputs it has at most as many gates as the problem's load, and fewer than 2^31
+/// clauses.
 pub fn formula_one_of(alloc: Global, p: &Problem, q: &Query) -> Result<Formula, AllocError>
     requires { IsQueryOf p.now q.now }
     ensures clauses { IfOk result (λ f. f.clauses ≡ (circuit_of false p.now q.now).clauses) }
     ensures vars { IfOk result (λ f. f.vars ≡ (circuit_of false p.now q.now).vars) }
+    ensures few { IfOk result (λ f. length f.clauses < 2 ^ 31) }
     ensures gates { IfOk result (λ f. f.vars ≤ 1 + input_count p.now q.now + load_of p.now) }
 {
     p.keeps_limits();

@@ -36,8 +36,10 @@
 //! examples are determined, and grow one by one; the examples after a valid trace are true and valid, and no
 //! more than the turns; and **a valid trace has at most K * (K + 1) turns**, where K is the number of the
 //! grammar's tuples of trees. Acceptance is defined in `specs/Acceptance.antt`, as conditions in order. By
-//! `specs/AcceptanceLaws.antt` no outcome is both accepted and at fault, each has one fault at most, and an
-//! accepted one is right wherever refuted formulas mean what they state.
+//! `specs/AcceptanceLaws.antt` no outcome is both accepted and at fault, and each has one fault at most. **What an
+//! accepted outcome says is right**: its transformer is best, or no transformer is sound. Beside acceptance this
+//! needs one term for each start and examples with rows of the problem; nothing is assumed of the turns, of the
+//! named transformers, or of the solver. The laws are the clauses of the functions of [`theorems`].
 #![tactic(auto)]
 
 mod answers;
@@ -55,6 +57,7 @@ mod soundness;
 mod state;
 mod stated;
 mod statements;
+pub mod theorems;
 mod turn;
 mod words;
 
@@ -71,6 +74,8 @@ pub use soundness::sound;
 pub use state::State;
 pub use turn::{Trace, Turn};
 
+#[cfg(test)]
+mod cases;
 #[cfg(test)]
 mod tests;
 #[cfg(test)]

@@ -19,7 +19,7 @@ ghost use Rattle.am_query.specs.inside.Statements.{States};
 ghost use Rattle.am_query.specs.inside.Words.{AreWordsIn};
 
 use crate::answers::PreciseAnswer;
-use crate::fit_query::{first_variables, terms};
+use crate::fit_query::first_variables;
 use crate::reading::{row_at, word_at};
 use crate::stated::{Stated, Variables, new_circuit};
 use crate::statements::Statements;
@@ -59,10 +59,13 @@ pub fn precise(
     match solve(alloc, &stated.formula, stated.base.as_slice(), limit)? {
         Answer::Sat(a) => {
             let trees = template.decode(&a)?;
-            let closer = terms(alloc, p.grammar(), &trees)?;
+            let closer = p.grammar().terms_of(alloc, &trees)?;
             Ok(PreciseAnswer::Better(closer, negative_at(p, &a, &inputs)))
         }
-        Answer::Unsat(log) => Ok(PreciseAnswer::Best(log)),
+        Answer::Unsat(log) => {
+            let kept = stated.refutation(alloc, &log)?;
+            Ok(PreciseAnswer::Best(kept))
+        }
         Answer::Spent(log) => Ok(PreciseAnswer::Spent(log)),
     }
 }

@@ -51,7 +51,10 @@ pub fn sound(
     let (stated, inputs) = stated_sound(alloc, true, p, t)?;
     match solve(alloc, &stated.formula, stated.base.as_slice(), limit)? {
         Answer::Sat(a) => Ok(SoundAnswer::Fails(positive_at(p, &a, &inputs))),
-        Answer::Unsat(log) => Ok(SoundAnswer::Holds(log)),
+        Answer::Unsat(log) => {
+            let kept = stated.refutation(alloc, &log)?;
+            Ok(SoundAnswer::Holds(kept))
+        }
         Answer::Spent(log) => Ok(SoundAnswer::Spent(log)),
     }
 }

@@ -1,11 +1,15 @@
 //! Finished formulas of queries.
 
-ghost use Rattle.std.specs.Prelude.{◌≡◌, ◌<◌, All, IfOk};
+ghost use Rattle.std.specs.Prelude.{◌≡◌, ◌^◌, ◌<◌, ◌≤◌, All, IfOk, length};
 ghost use Rattle.std.specs.List.Sorted.{IsStrictlyIncreasing};
 ghost use Rattle.am_lit.specs.UnitRow.{Determines};
+ghost use Rattle.am_chain.specs.Replay.{Refutes};
 ghost use Rattle.am_gate.specs.Circuit.{HasInputs, start};
+ghost use Rattle.am_solve.specs.Answers.{ChainsAreShort};
 
 use am_bv::Row;
+use am_chain::chain_laws::trimmed_chains_are_the_logs;
+use am_chain::{Log, trimmed};
 use am_gate::Circuit;
 use am_lit::Formula;
 use std::alloc::{AllocError, Global};
@@ -35,6 +39,21 @@ impl Stated {
             formula: circuit.finish(),
             base,
         }
+    }
+
+    /// Of a log that refutes the formula, the chains that its last one needs.
+    pub fn refutation(&self, alloc: Global, log: &Log) -> Result<Log, AllocError>
+        requires refutes { Refutes self.now.formula.clauses log.now }
+        requires short { ChainsAreShort self.now.formula.vars log.now }
+        requires few_clauses { length self.now.formula.clauses < 2 ^ 31 }
+        requires few_chains { length log.now ≤ 2 ^ 30 }
+        ensures refutes { IfOk result (λ kept. Refutes self.now.formula.clauses kept) }
+        ensures fewer { IfOk result (λ kept. length kept ≤ length log.now) }
+        ensures short { IfOk result (λ kept. ChainsAreShort self.now.formula.vars kept) }
+    {
+        trimmed_chains_are_the_logs();
+        let kept = trimmed(alloc, &self.formula, log)?;
+        Ok(kept)
     }
 }
 

@@ -1,12 +1,17 @@
-//! Answers at small problems, as an independent reference has them.
+//! Formulas and answers of small problems, as an independent reference has them.
 
 ghost use Rattle.std.specs.Prelude.{◌≤◌, All, IfOk, IfSome, length};
 ghost use Rattle.am_bv.specs.Words.{AreWords};
 ghost use Rattle.am_problem.specs.Examples.{IsNegative, IsPositive};
+ghost use Rattle.am_query.specs.Queries.{IsQueryOf};
 ghost use Rattle.am_query.specs.Transformers.{IsTransformerOf};
 
-use crate::{FitAnswer, fit};
-use am_bv::{Op, Term, Width};
+use crate::cases::{CASES, Case, Covered, Examples, Excluded};
+use crate::{
+    FitAnswer, PreciseAnswer, Query, SoundAnswer, fit, formula_of, formula_one_of, precise, sound,
+};
+use am_bv::Width;
+use am_lit::{Formula, Lit};
 use am_problem::{
     Inputs, Negative, Negatives, Positive, Positives, Problem, ShortRow, Transformer, WordRow,
     read_problem,
@@ -15,17 +20,7 @@ use std::alloc::{AllocError, Global};
 use std::process::Abort;
 use std::test::Fail;
 
-static INCOMPARABLE: &str = "amurth 1 width 2 operation 1 x0 domain u-interval start L H
-depth 1 turns 40 conflicts 100000 rule L (and f0 1) (and f0 2) rule H f1 end";
-
-/// Inputs of two fields, and a word.
-pub struct Example(pub [u8; 2], pub u8);
-
-/// Examples of a problem with one input.
-pub struct Examples {
-    pub pos: &'static [Example],
-    pub neg: &'static [Example],
-}
+// ---- examples
 
 /// A row of the low bits of some bytes.
 fn row<const N: usize>(w: Width, bytes: &[u8]) -> ShortRow<N>
@@ -39,30 +34,33 @@ fn row<const N: usize>(w: Width, bytes: &[u8]) -> ShortRow<N>
     row
 }
 
-fn positive(rt: &impl Abort, p: &Problem, e: &Example) -> Positive
+fn positive(rt: &impl Abort, p: &Problem, e: &Covered) -> Positive
     ensures { IsPositive p.now result }
 {
-    let inputs: Inputs = row(p.width(), &e.0);
-    let words: WordRow = row(p.width(), &[e.1]);
+    assert!(rt; e.0.len() <= 12);
+    assert!(rt; e.1.len() <= 3);
+    let inputs: Inputs = row(p.width(), e.0);
+    let words: WordRow = row(p.width(), e.1);
     assert_eq!(rt; inputs.len(), p.all_fields() as usize);
     assert_eq!(rt; words.len(), p.inputs() as usize);
     Positive { inputs, words }
 }
 
-fn negative(rt: &impl Abort, p: &Problem, e: &Example) -> Negative
+fn negative(rt: &impl Abort, p: &Problem, e: &Excluded) -> Negative
     ensures { IsNegative p.now result }
 {
-    let inputs: Inputs = row(p.width(), &e.0);
+    assert!(rt; e.0.len() <= 12);
+    let inputs: Inputs = row(p.width(), e.0);
     assert_eq!(rt; inputs.len(), p.all_fields() as usize);
     let word = p.width().truncate(e.1);
     Negative { inputs, word }
 }
 
-pub fn positives(
+fn positives(
     rt: &impl Abort,
     alloc: Global,
     p: &Problem,
-    examples: &[Example],
+    examples: &[Covered],
 ) -> Result<Positives, AllocError>
     ensures { IfOk result (All (IsPositive p.now)) }
 {
@@ -73,11 +71,11 @@ pub fn positives(
     Ok(positives)
 }
 
-pub fn negatives(
+fn negatives(
     rt: &impl Abort,
     alloc: Global,
     p: &Problem,
-    examples: &[Example],
+    examples: &[Excluded],
 ) -> Result<Negatives, AllocError>
     ensures { IfOk result (All (IsNegative p.now)) }
 {
@@ -88,8 +86,53 @@ pub fn negatives(
     Ok(negatives)
 }
 
+// ---- sums of formulas
+
+/// A sum of numbers with a further one, as FNV-1a has it.
+fn added(sum: u32, number: u32) -> u32 {
+    (sum ^ number).wrapping_mul(16_777_619)
+}
+
+/// A sum with the codes of a clause's literals, and its end.
+fn clause_added(sum: u32, clause: &[Lit]) -> u32 {
+    let mut sum = sum;
+    for l in clause {
+        sum = added(sum, l.code());
+    }
+    added(sum, u32::MAX)
+}
+
+/// The sum of the numbers of a formula's DIMACS text.
+fn formula_sum(f: &Formula) -> u32 {
+    let mut sum = added(added(2_166_136_261, f.vars), f.clauses.len());
+    for i in 0..f.clauses.len() {
+        sum = clause_added(sum, f.clauses.clause(i));
+    }
+    sum
+}
+
+fn formula_said(alloc: Global, f: &Formula) -> Result<String, AllocError> {
+    let vars = f.vars;
+    let sum = formula_sum(f);
+    format!(in alloc; "{vars} {sum}")
+}
+
+/// What is said of both formulas of a query.
+fn formulas_said(alloc: Global, p: &Problem, q: &Query) -> Result<String, AllocError>
+    requires { IsQueryOf p.now q.now }
+{
+    let folded = formula_said(alloc, &formula_of(alloc, p, q)?)?;
+    let plain = formula_said(alloc, &formula_one_of(alloc, p, q)?)?;
+    format!(in alloc; "{folded} {plain}")
+}
+
+// ---- answers
+
+/// The limit of each query.
+const LIMIT: u64 = 1_000_000;
+
 /// A transformer that satisfies the examples, or None where there is none.
-pub fn fitted(
+fn fitted(
     rt: &impl Abort,
     alloc: Global,
     p: &Problem,
@@ -100,33 +143,94 @@ pub fn fitted(
     let pos = positives(rt, alloc, p, examples.pos)?;
     let neg = negatives(rt, alloc, p, examples.neg)?;
     assert!(rt; pos.len() + neg.len() <= p.turns() as usize);
-    match fit(alloc, p, &pos, &neg, 100_000)? {
+    match fit(alloc, p, &pos, &neg, LIMIT)? {
         FitAnswer::Found(t) => Ok(Some(t)),
         FitAnswer::Nothing(_) => Ok(None),
         FitAnswer::Spent(_) => Err(Fail::from("the limit was reached")),
     }
 }
 
-/// Examples of [`INCOMPARABLE`] that only the second term of L satisfies.
-static SECOND: Examples = Examples {
-    pos: &[],
-    neg: &[Example([2, 2], 1)],
-};
+/// The transformer that alone satisfies the examples.
+fn transformer(
+    rt: &impl Abort,
+    alloc: Global,
+    p: &Problem,
+    alone: &Examples,
+) -> Result<Transformer, Fail>
+    ensures { IfOk result (IsTransformerOf p.now) }
+{
+    match fitted(rt, alloc, p, alone)? {
+        Some(t) => Ok(t),
+        None => Err(Fail::from("none was found")),
+    }
+}
 
-/// Examples of [`INCOMPARABLE`] that no transformer satisfies.
-static NEITHER: Examples = Examples {
-    pos: &[],
-    neg: &[Example([1, 1], 0), Example([2, 2], 1)],
-};
+fn fit_said(
+    rt: &impl Abort,
+    alloc: Global,
+    p: &Problem,
+    examples: &Examples,
+) -> Result<String, Fail> {
+    let found = fitted(rt, alloc, p, examples)?.is_some();
+    let pos = positives(rt, alloc, p, examples.pos)?;
+    let neg = negatives(rt, alloc, p, examples.neg)?;
+    assert!(rt; pos.len() + neg.len() <= p.turns() as usize);
+    let formulas = formulas_said(alloc, p, &Query::Fit { pos, neg })?;
+    let answer = if found { "found" } else { "nothing" };
+    Ok(format!(in alloc; "{formulas} {answer}")?)
+}
+
+fn sound_said(
+    rt: &impl Abort,
+    alloc: Global,
+    p: &Problem,
+    alone: &Examples,
+) -> Result<String, Fail> {
+    let term = transformer(rt, alloc, p, alone)?;
+    let answer = match sound(alloc, p, &term, LIMIT)? {
+        SoundAnswer::Holds(_) => "holds",
+        SoundAnswer::Fails(_) => "fails",
+        SoundAnswer::Spent(_) => "spent",
+    };
+    let formulas = formulas_said(alloc, p, &Query::Sound { term })?;
+    Ok(format!(in alloc; "{formulas} {answer}")?)
+}
+
+fn precise_said(
+    rt: &impl Abort,
+    alloc: Global,
+    p: &Problem,
+    alone: &Examples,
+    examples: &Examples,
+) -> Result<String, Fail> {
+    let term = transformer(rt, alloc, p, alone)?;
+    let pos = positives(rt, alloc, p, examples.pos)?;
+    let neg = negatives(rt, alloc, p, examples.neg)?;
+    assert!(rt; pos.len() + neg.len() <= p.turns() as usize);
+    let answer = match precise(alloc, p, &term, &pos, &neg, LIMIT)? {
+        PreciseAnswer::Better(_, _) => "better",
+        PreciseAnswer::Best(_) => "best",
+        PreciseAnswer::Spent(_) => "spent",
+    };
+    let formulas = formulas_said(alloc, p, &Query::Precise { term, pos, neg })?;
+    Ok(format!(in alloc; "{formulas} {answer}")?)
+}
+
+fn check(rt: &impl Abort, alloc: Global, case: &Case) -> Result<(), Fail> {
+    let p = read_problem(alloc, case.problem.as_bytes())?;
+    let fit = fit_said(rt, alloc, &p, &case.examples)?;
+    assert_eq!(rt; fit.as_str(), case.fit);
+    let sound = sound_said(rt, alloc, &p, &case.alone)?;
+    assert_eq!(rt; sound.as_str(), case.sound);
+    let precise = precise_said(rt, alloc, &p, &case.alone, &case.examples)?;
+    assert_eq!(rt; precise.as_str(), case.precise);
+    Ok(())
+}
 
 #[test]
-fn a_fit_satisfies_the_examples(rt: HostRuntime) -> Result<(), Fail> {
-    let p = read_problem(rt.alloc(), INCOMPARABLE.as_bytes())?;
-    let found = fitted(&rt, rt.alloc(), &p, &SECOND)?.ok_or("none was found")?;
-    let low = Term::binary(rt.alloc(), Op::And, Term::Field(0), Term::Const(2))?;
-    assert_eq!(rt; found.len(), 2);
-    assert!(rt; *found.get(0) == low);
-    assert!(rt; *found.get(1) == Term::Field(1));
-    assert!(rt; fitted(&rt, rt.alloc(), &p, &NEITHER)?.is_none());
+fn queries_say_what_the_reference_has(rt: HostRuntime) -> Result<(), Fail> {
+    for case in &CASES {
+        check(&rt, rt.alloc(), case)?;
+    }
     Ok(())
 }

@@ -4,29 +4,38 @@
 pub use Rattle.am_syntax.proofs.Takes.{Takes-none, Takes-then, Takes-words, Takes-length, Takes-halves, Takes-nothing}
 -- tokens that were reached: none taken, one after another, behind a value; a judge and a term go forward alone
 pub use Rattle.am_syntax.proofs.Advancing.{reached_here, reached_then, reached_ok, judged_advances, term_advances}
+-- readers of readers go forward alone: one behind another, seen otherwise, one of two, so many items, as many as come
+pub use Rattle.am_syntax.proofs.Advancing.{bind_reached, bind_advances, seen_advances, if_reached, times_advances}
+pub use Rattle.am_syntax.proofs.Advancing.{repeat_advances}
 -- a failure in a part is one of the whole: in a part that was reached, in the first, in one behind a value
 pub use Rattle.am_syntax.proofs.Loops.{fails_on, fails_first, fails_behind, makes_err}
+-- what a loop does that reads so many items, or items as long as one comes: one more, a failure, the end
+pub use Rattle.am_syntax.proofs.Loops.{times_more, times_fails, times_done}
+pub use Rattle.am_syntax.proofs.Repeats.{so_far_more, so_far_fails, so_far_done}
 -- equal words; a step that wasn't refused
 pub use Rattle.am_syntax.proofs.PieceLaws.{bytes_eq-same, same_bytes, ok_is, bind_ok}
--- pieces are exact: one token, a key word, one behind another, with key words, another view, what comes next decides
+-- pieces are exact: one token, a key word, one behind another, with key words, another view, what comes next decides,
+-- one more
 pub use Rattle.am_syntax.proofs.PieceLaws.{token_law, key_law, then_law, keyed_law, closed_law, seen_law}
-pub use Rattle.am_syntax.proofs.PieceLaws.{optional_law, choice_law}
+pub use Rattle.am_syntax.proofs.PieceLaws.{seen_good_law, optional_law, choice_law, one_more_law}
+-- a token that is refused is refused whatever was to be read
+pub use Rattle.am_syntax.proofs.PieceLaws.{refused_alike}
 -- lists of pieces are exact: so many, or as many as come, where each takes a token at least
 pub use Rattle.am_syntax.proofs.ListLaws.{times_law, moves_on, repeat_law}
 -- numerals, names and operators are exact; which way a test went; what was found in a table
-pub use Rattle.am_syntax.proofs.TokenLaws.{number_law, name_law, operator_law}
+pub use Rattle.am_syntax.proofs.TokenLaws.{number_law, below_law, name_law, operator_law}
 pub use Rattle.am_syntax.proofs.TokenLaws.{chosen, cond_ok, op_named-name, found_passes, named_some}
--- the decimal text of a number is its numeral
+-- the decimal text of a number is its numeral, and that of any number is a row of digits
 pub use Rattle.am_syntax.proofs.NumeralLaws.{decimal-is_digits, decimal-is_canonical, decimal-is_numeral}
-pub use Rattle.am_syntax.proofs.NumeralLaws.{decimal-number_of, no_digits, digits_decimal_of}
+pub use Rattle.am_syntax.proofs.NumeralLaws.{decimal-number_of, digits_of_any, no_digits, digits_decimal_of}
 -- the words of each kind of term; a row of digits differs from other words; a small word has a numeral
 pub use Rattle.am_syntax.proofs.TermWords.{words-Const, words-Field, words-Node, digits_apart, narrow}
 -- terms are exact
 pub use Rattle.am_syntax.proofs.TermLaws.{term_law, term_within_law}
 -- a text has a value exactly where its piece spells it, and else a first refusal
 pub use Rattle.am_syntax.proofs.TextLaws.{text_found, text_read, text_settled, text_closed, text_bad}
--- what follows a word that opens nothing; words that stand apart: a word, those of a term, two rows of them
-pub use Rattle.am_syntax.proofs.SpacedLaws.{StandApart, after, spaced-word, word_apart, term_apart, spaced_apart}
+-- a word that opens nothing; words that stand apart: a word, those of a term, two rows of them
+pub use Rattle.am_syntax.proofs.SpacedLaws.{StandApart, spaced-word, word_apart, term_apart, spaced_apart}
 pub use Rattle.am_syntax.proofs.SpacedLaws.{both_apart}
 -- the text of each of a list behind a space, also behind an operator, where the words of each stand apart
 pub use Rattle.am_syntax.proofs.SpacedLaws.{EachApart, each_text, spaced_each, node_text, node_apart}

@@ -1,5 +1,5 @@
 -- The decimal text of a number is its numeral, and no other word is.
-use Rattle.std.proofs.Common.{◌≡◌, ℕ, zero, suc, ◌+◌, ◌*◌, ◌-◌, ◌^◌, ◌<◌, ◌≤◌, take, true, false, not, ◌==◌, List, []}
+use Rattle.std.proofs.Common.{◌≡◌, ℕ, zero, suc, ◌+◌, ◌*◌, ◌-◌, ◌^◌, ◌<◌, ◌≤◌, ◌/◌, ◌%◌, take, true, false, not, ◌==◌, List, []}
 use Rattle.std.proofs.Common.{◌∷◌, length, get_or, decimal, fold, ap, sym, refl, arith, rules, lit<, inl, inr}
 use Rattle.std.specs.Prelude.{Option, Some, None, IfNone}
 use Rattle.std.specs.List.{list_all}
@@ -7,7 +7,8 @@ use Rattle.std.proofs.lemmas.Str.Parse.{IsNumeralModel, numerals_by_fold}
 use Rattle.std.proofs.lemmas.Fmt.{digits_decimal, digits_value-decimal, decimal-digits_value, decimal_nonempty}
 use Rattle.std.proofs.lemmas.Fmt.{decimal_digit, first_decimal}
 use Rattle.std.proofs.lemmas.Bool.{and_from, and_parts, lt-ltb, and_left, and_right, eqb-true, eqb-false, ne_eqb}
-use Rattle.std.proofs.lemmas.Bool.{or_cases, or_right, not-true}
+use Rattle.std.proofs.lemmas.Bool.{cases_Bool, le-leb, or_cases, or_right, not-true}
+use Rattle.std.specs.Fmt.{digits, digit_glyph, digits_onto}
 use Rattle.am_syntax.specs.Numerals.{is_canonical, is_digit, is_digits, is_numeral, number_of}
 
 abbrev read_on : ℕ → List ℕ → ℕ
@@ -70,6 +71,36 @@ no_numeral b bs h = and_right _ _ (and_left _ _ h)
 
 pub decimal-is_digits : (n : ℕ) → n < 2 ^ 64 → is_digits (decimal n) ≡ true
 decimal-is_digits n h = and_from _ _ (lt-ltb _ _ (decimal_nonempty n h)) (digits_decimal own n h)
+
+-- the last digits of any number are digits
+last_digits : (k n : ℕ) (acc : List ℕ) → list_all is_digit acc ≡ true →
+    list_all is_digit (digits_onto k 10 false n acc) ≡ true
+last_digits zero n acc h = h
+last_digits (suc k) n acc h =
+    let below : n % 10 < 10 = omega arith in
+    let glyph : digit_glyph false (n % 10) ≡ 48 + n % 10 = rw (lt-ltb _ _ below) refl in
+    let digit : is_digit (digit_glyph false (n % 10)) ≡ true =
+    rw glyph (and_from _ _ (le-leb 48 (48 + n % 10) (omega arith)) (le-leb (48 + n % 10) 57 (omega arith))) in
+    let onto = and_from _ _ digit h in
+    elim (cases_Bool (n / 10 == 0)) [
+      | inl none ↦ rw none onto
+      | inr more ↦ rw more (last_digits k (n / 10) (digit_glyph false (n % 10) ∷ acc) onto)
+    ]
+
+some_digits : (k n : ℕ) (acc : List ℕ) → 0 < k + length acc → 0 < length (digits_onto k 10 false n acc)
+some_digits zero n acc h = omega (arith, h)
+some_digits (suc k) n acc h =
+    elim (cases_Bool (n / 10 == 0)) [
+      | inl none ↦ rw none (omega arith)
+      | inr more ↦ rw more (some_digits k (n / 10) (digit_glyph false (n % 10) ∷ acc) (omega arith))
+    ]
+
+-- the decimal text of any number is a row of digits
+pub digits_of_any : (n : ℕ) → is_digits (decimal n) ≡ true
+unfolding digits
+digits_of_any n =
+    and_from _ _ (lt-ltb 0 (length (digits_onto 64 10 false n [])) (some_digits 64 n [] (omega arith)))
+    (last_digits 64 n [] refl)
 
 pub decimal-is_canonical : (n : ℕ) → n < 2 ^ 64 → is_canonical (decimal n) ≡ true
 decimal-is_canonical n h = canonical_from (decimal n) (decimal_canonical n h)

@@ -6,9 +6,10 @@ use Rattle.std.proofs.lemmas.Bool.{cases_Bool}
 use Rattle.std.proofs.lemmas.Slice.Eq.{bytes_eq-Decides}
 use Rattle.am_text.specs.Tokens.{Left, Placed, words}
 use Rattle.am_syntax.specs.declared.refusal.Cause.{Cause}
+use Rattle.am_syntax.specs.declared.refusal.Cause.TheVariants.{Syntax, Count}
 use Rattle.am_syntax.specs.Readers.{◌>>=◌, Read, Reader, Word, Words, done, judged, judged_in, onward, settled}
-use Rattle.am_syntax.specs.Pieces.{◌▹◌, Piece, choice, closed_or, key_judge, key_or, keyed_or, keyed, next_is, optional}
-use Rattle.am_syntax.specs.Pieces.{seen_as, syntax, token}
+use Rattle.am_syntax.specs.Pieces.{◌▹◌, Piece, choice, closed_or, key_judge, key_or, keyed_or, keyed, next_is, one_more}
+use Rattle.am_syntax.specs.Pieces.{optional, seen_as, syntax, token}
 use Rattle.am_syntax.specs.Exact.{IsExact, Takes, WithoutKey, always, words_in}
 use Rattle.am_syntax.proofs.Advancing.{bind_advances, bind_reached, if_reached, judged_advances, reached_here}
 use Rattle.am_syntax.proofs.Advancing.{seen_advances}
@@ -180,10 +181,11 @@ closed_law {X = X} {p = p} {May = May} cause word law meets = record {
       (λ x. seen_advances (key_or cause word).read (λ _. x) (key_law cause word).advances);
 }
 
--- the same piece with another view of its values
-pub seen_law : {X Y : Type 0} {p : Piece X} {May : Words → Type 0} (to : X → Y) (from : Y → X) → IsExact p May →
-    ((x : X) → p.Good x → from (to x) ≡ x) → ((y : Y) → to (from y) ≡ y) → IsExact (seen_as to from p) May
-seen_law {X = X} {Y = Y} {p = p} to from law there back = record {
+-- the same piece with another view of its good values
+pub seen_good_law : {X Y : Type 0} {p : Piece X} {May : Words → Type 0} (to : X → Y) (from : Y → X) → IsExact p May →
+    ((x : X) → p.Good x → from (to x) ≡ x) → ((y : Y) → p.Good (from y) → to (from y) ≡ y) →
+    IsExact (seen_as to from p) May
+seen_good_law {X = X} {Y = Y} {p = p} to from law there back = record {
   takes = λ s y u e.
       let f = bind_ok (p.read s) (λ x. done (to x)) (y, u) e in
       let a = law.takes s f.0.0 f.0.1 f.1 in
@@ -191,11 +193,47 @@ seen_law {X = X} {Y = Y} {p = p} to from law there back = record {
       subst (λ (r : Y × Left). Takes s (p.spell (from r.0)) r.1 × p.Good (from r.0)) (ok_is made (y, u) f.2)
       (subst (λ (x : X). Takes s (p.spell x) f.0.1 × p.Good x) (sym (there f.0.0 a.1)) a);
   again = λ s y u good taken may.
-      ap (onward (λ x. done (to x))) (law.again s (from y) u good taken may) ∙ ap (λ (z : Y). Ok (z, u)) (back y);
+      ap (onward (λ x. done (to x))) (law.again s (from y) u good taken may) ∙ ap (λ (z : Y). Ok (z, u)) (back y good);
   advances = seen_advances p.read to law.advances;
 }
 
+-- the same piece with another view of its values
+pub seen_law : {X Y : Type 0} {p : Piece X} {May : Words → Type 0} (to : X → Y) (from : Y → X) → IsExact p May →
+    ((x : X) → p.Good x → from (to x) ≡ x) → ((y : Y) → to (from y) ≡ y) → IsExact (seen_as to from p) May
+seen_law to from law there back = seen_good_law to from law there (λ y _. back y)
+
 -- ---- what comes next decides
+
+-- no token passes where each is refused
+none_passes : {X : Type 0} (cause : Cause) (s : Left) (x : X) (u : Left) → judged (λ _. Err cause) s ≡ Ok (x, u) → ⊥
+none_passes {X = X} cause s x u e =
+    let refused : ◌≡◌ {A = Result X Cause} (Err cause) (Ok x) = (judged_word (λ _. Err cause) s x u e).1 in cc
+
+-- in the place of an X and of a Y the same token is refused for the same cause
+module _ {X Y : Type 0} (cause : Cause) (stop : Cause × Left) where
+  alike : (ts : List Placed) (end : ℕ) → ◌≡◌ {A = Read X} (judged_in (λ _. Err cause) ts end) (Err stop) →
+      ◌≡◌ {A = Read Y} (judged_in (λ _. Err cause) ts end) (Err stop)
+  alike [] end e = let same : (Syntax, record { tokens = []; end = end }) ≡ stop = cc in ap Err same
+  alike (t ∷ ts) end e = let same : (cause, record { tokens = t ∷ ts; end = end }) ≡ stop = cc in ap Err same
+
+  pub refused_alike : (s : Left) → ◌≡◌ {A = Read X} (judged (λ _. Err cause) s) (Err stop) →
+      ◌≡◌ {A = Read Y} (judged (λ _. Err cause) s) (Err stop)
+  unfolding judged
+  refused_alike s e = alike s.tokens s.end e
+
+-- a piece of which one more may stand here, or else Count at its first token
+pub one_more_law : {X : Type 0} {p : Piece X} {May : Words → Type 0} (may : Bool) → IsExact p May →
+    IsExact (one_more may p) May
+one_more_law true law = record {
+  takes = λ s x u e. let a = law.takes s x u e in (a.0, (refl, a.1));
+  again = λ s x u good taken may. law.again s x u good.1 taken may;
+  advances = law.advances;
+}
+one_more_law false law = record {
+  takes = λ s x u e. absurd (none_passes Count s x u e);
+  again = λ s x u good taken may. absurd (let e : false ≡ true = good.0 in cc);
+  advances = judged_advances (λ _. Err Count);
+}
 
 pub optional_law : {X : Type 0} {p : Piece X} {May : Words → Type 0} (word : Word) → IsExact p May →
     IsExact (optional word p) (WithoutKey word May)

@@ -13,7 +13,7 @@ use Rattle.am_bv.specs.declared.op.Op.TheVariants.{Eq, Ult, Ule, Slt, Sle, Umin,
 use Rattle.am_bv.specs.declared.term.Term.{Term}
 use Rattle.am_bv.specs.declared.term.Term.TheVariants.{Const, Field, Node}
 use Rattle.am_bv.proofs.Laws.{by_induction, fits-Const, fits-Node}
-use Rattle.am_syntax.specs.Canonical.{spaced, term_text}
+use Rattle.am_syntax.specs.Canonical.{after, spaced, term_text}
 use Rattle.am_syntax.specs.Names.{op_name}
 use Rattle.am_syntax.specs.Readers.{Word, Words}
 use Rattle.am_syntax.specs.declared.limits.Letter.{Letter}
@@ -24,11 +24,6 @@ use Rattle.am_syntax.proofs.TermWords.{digits_apart, letter_closes, letter_opens
 use Rattle.am_syntax.proofs.TermWords.{words-Node}
 
 -- ---- the text of each kind of term
-
--- what follows a word that opens nothing: a space, but none before a closing parenthesis, and the other words
-abbrev pub after : Words → List ℕ
-after [] = []
-after (w ∷ ws) = (cond (bytes_eq w (codes ")")) [] (32 ∷ [])) ++ spaced (w ∷ ws)
 
 -- a word that opens nothing, and what follows it
 pub spaced-word : (v : Word) (ws : Words) → bytes_eq v (codes "(") ≡ false → spaced (v ∷ ws) ≡ v ++ after ws

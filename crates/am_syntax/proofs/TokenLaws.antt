@@ -1,9 +1,9 @@
 -- The laws of single tokens: numerals, names, operators, domains.
-use Rattle.std.proofs.Common.{◌≡◌, ℕ, ◌^◌, ◌<◌, ◌≤◌, Bool, true, false, cond, ◌&&◌, nat_le, List, [], ◌∷◌, decimal}
+use Rattle.std.proofs.Common.{◌≡◌, ℕ, ◌^◌, ◌<◌, ◌≤◌, Bool, true, false, cond, ◌&&◌, nat_le, nat_lt, List, [], ◌∷◌, decimal}
 use Rattle.std.proofs.Common.{Option, Some, None, Result, Ok, Err, bytes_eq, find, ap, subst, ◌∙◌, sym, refl, inl, inr}
 use Rattle.std.proofs.Common.{arith, IsTrue}
 use Rattle.std.specs.Prelude.{◌⊎◌}
-use Rattle.std.proofs.lemmas.Bool.{and_from, and_parts, le-leb, leb-true}
+use Rattle.std.proofs.lemmas.Bool.{and_from, and_parts, le-leb, leb-true, lt-ltb, ltb-true}
 use Rattle.am_bv.specs.declared.op.Op.{Op}
 use Rattle.am_bv.specs.declared.op.TheConstants.Op.{ALL}
 use Rattle.am_bv.specs.declared.op.Op.TheVariants.{Not, Neg, And, Or, Xor, Add, Sub, Mul, Udiv, Urem, Shl, Lshr, Ashr}
@@ -12,7 +12,7 @@ use Rattle.am_syntax.specs.declared.refusal.Cause.{Cause}
 use Rattle.am_syntax.specs.declared.refusal.Cause.TheVariants.{Syntax, Number}
 use Rattle.am_syntax.specs.Names.{op_name, named, op_named, operator, operator_judge}
 use Rattle.am_syntax.specs.Numerals.{is_canonical, is_digits, is_name, number_of}
-use Rattle.am_syntax.specs.Pieces.{name_judge, name_or, number, number_judge}
+use Rattle.am_syntax.specs.Pieces.{below, below_judge, name_judge, name_or, number, number_judge}
 use Rattle.am_syntax.specs.Readers.{Word}
 use Rattle.am_syntax.proofs.NumeralLaws.{decimal-is_canonical, decimal-is_digits, decimal-number_of, digits_decimal_of}
 use Rattle.am_syntax.specs.Exact.{IsExact, always}
@@ -66,6 +66,45 @@ unfolding number
 number_law least most small =
     token_law (number_judge least most) decimal (IsFrom least most) (number_to least most small)
     (number_back least most small)
+
+abbrev IsBelow : ℕ → ℕ → ℕ → Type 0
+IsBelow least count n = (least ≤ n) × (n < count)
+
+below_to : (least count : ℕ) → count ≤ 2 ^ 64 → (v : Word) (n : ℕ) → below_judge least count v ≡ Ok n →
+    (v ≡ decimal n) × IsBelow least count n
+below_to least count small v n e =
+    elim (chosen (is_digits v) (cond (is_canonical v && nat_le least (number_of v) && nat_lt (number_of v) count)
+    (Ok (number_of v)) (Err Number)) (Err Syntax) (Ok n) e) [
+      | inl digits ↦
+          let given = cond_ok _ (number_of v) Number n digits.1 in
+          let tests = and_parts _ _ given.0 in
+          let front = and_parts _ _ tests.0 in
+          let low = leb-true least (number_of v) front.1 in
+          let high = ltb-true (number_of v) count tests.1 in
+          subst (λ (m : ℕ). (v ≡ decimal m) × IsBelow least count m) given.1
+          (digits_decimal_of v digits.0 front.0 (omega arith), (low, high))
+      | inr other ↦ absurd (let e : ◌≡◌ {A = Result ℕ Cause} (Err Syntax) (Ok n) = other.1 in cc)
+    ]
+
+below_back : (least count : ℕ) → count ≤ 2 ^ 64 → (n : ℕ) → IsBelow least count n →
+    below_judge least count (decimal n) ≡ Ok n
+below_back least count small n range =
+    let fits : n < 2 ^ 64 = omega (arith, range.1) in
+    let number = decimal-number_of n fits in
+    let low : nat_le least (number_of (decimal n)) ≡ true = ap (nat_le least) number ∙ le-leb least n range.0 in
+    let high : nat_lt (number_of (decimal n)) count ≡ true = ap (λ m. nat_lt m count) number ∙ lt-ltb n count range.1 in
+    ap (λ b. cond b (cond (is_canonical (decimal n) && nat_le least
+    (number_of (decimal n)) && nat_lt (number_of (decimal n)) count) (Ok (number_of (decimal n))) (Err Number))
+    (Err Syntax)) (decimal-is_digits n fits)
+    ∙ ap (λ b. cond b (Ok (number_of (decimal n))) (Err Number))
+    (and_from _ _ (and_from _ _ (decimal-is_canonical n fits) low) high)
+    ∙ ap (λ m. Ok m) number
+
+pub below_law : (least count : ℕ) → count ≤ 2 ^ 64 → IsExact (below least count) always
+unfolding below
+below_law least count small =
+    token_law (below_judge least count) decimal (IsBelow least count) (below_to least count small)
+    (below_back least count small)
 
 pub name_law : (cause : Word → Cause) → IsExact (name_or cause) always
 unfolding name_or

@@ -11,7 +11,7 @@ use Rattle.am_syntax.specs.Numerals.{is_alphanumeric, is_capital, is_digit, is_n
 use Rattle.am_syntax.specs.Readers.{Word}
 use Rattle.am_syntax.proofs.CanonicalLaws.{digits_is_token}
 use Rattle.am_syntax.proofs.SpacedLaws.{StandApart, word_apart}
-use Rattle.am_syntax.proofs.NumeralLaws.{decimal-is_digits}
+use Rattle.am_syntax.proofs.NumeralLaws.{decimal-is_digits, digits_of_any}
 use Rattle.am_syntax.proofs.PieceLaws.{same_bytes}
 use Rattle.am_syntax.proofs.TermWords.{digits_apart}
 
@@ -20,9 +20,9 @@ pub number_is_token : (n : ℕ) → n < 2 ^ 64 → IsToken (decimal n)
 number_is_token n small = digits_is_token (decimal n) (decimal-is_digits n small)
 
 -- a numeral stands apart
-pub number_apart : (n : ℕ) → n < 2 ^ 64 → StandApart (decimal n ∷ [])
-number_apart n small =
-    let digits = decimal-is_digits n small in
+pub number_apart : (n : ℕ) → StandApart (decimal n ∷ [])
+number_apart n =
+    let digits = digits_of_any n in
     word_apart (decimal n) (digits_apart (decimal n) (codes "(") digits refl) (digits_apart (decimal n) (codes ")")
     digits refl)
 

@@ -16,6 +16,11 @@ spaced [] = []
 spaced (v ∷ []) = v
 spaced (v ∷ w ∷ ws) = v ++ (gap v w ++ spaced (w ∷ ws))
 
+-- words behind one that opens nothing: a space first, but none before a closing parenthesis
+abbrev pub after : Words → List ℕ
+after [] = []
+after (w ∷ ws) = (if bytes_eq w (codes ")") then [] else 32 ∷ []) ++ spaced (w ∷ ws)
+
 -- a line of words
 unfoldable pub line : Words → List ℕ
 line ws = spaced ws ++ 10 ∷ []

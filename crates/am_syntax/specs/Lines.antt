@@ -1,8 +1,8 @@
 -- What stands on a printed line behind its key word: words, numbers and terms.
-use Rattle.std.specs.Prelude.{◌<◌, ◌^◌, Bool, ◌||◌, not, List, [], ◌∷◌, bytes_eq, codes, decimal, flat_map, IsTrue}
+use Rattle.std.specs.Prelude.{All, Bool, ◌||◌, not, List, [], ◌∷◌, bytes_eq, codes, decimal, flat_map, map, IsTrue}
 use Rattle.std.specs.List.{AllByRecursion}
 use Rattle.am_syntax.specs.declared.lines.Entry.{Entry}
-use Rattle.am_syntax.specs.declared.lines.Entry.TheVariants.{Word as word, Number, Term}
+use Rattle.am_syntax.specs.declared.lines.Entry.TheVariants.{Word as word, Number, Numbers, Bytes, Term, Terms}
 use Rattle.am_syntax.specs.Readers.{Word, Words}
 use Rattle.am_syntax.specs.Spelling.{FitsSomewhere, letter_code, term_words}
 
@@ -10,11 +10,14 @@ use Rattle.am_syntax.specs.Spelling.{FitsSomewhere, letter_code, term_words}
 abbrev pub is_apart : Word → Bool
 is_apart v = not (bytes_eq v (codes "(") || bytes_eq v (codes ")"))
 
--- a word that is no parenthesis, a number of 64 bits, or a term that fits somewhere
+-- a word is no parenthesis, and a term fits somewhere
 abbrev pub IsEntry : Entry → Type 0
 IsEntry (word v) = IsTrue (is_apart v.now)
-IsEntry (Number n) = n < 2 ^ 64
+IsEntry (Number n) = Unit {0}
+IsEntry (Numbers ns) = Unit {0}
+IsEntry (Bytes bs) = Unit {0}
 IsEntry (Term letter t) = FitsSomewhere t.now
+IsEntry (Terms letter ts) = All FitsSomewhere ts.now
 
 abbrev pub AreEntries : List Entry → Type 0
 AreEntries entries = AllByRecursion IsEntry entries
@@ -23,7 +26,10 @@ AreEntries entries = AllByRecursion IsEntry entries
 abbrev pub entry_words : Entry → Words
 entry_words (word v) = v.now ∷ []
 entry_words (Number n) = decimal n ∷ []
+entry_words (Numbers ns) = map decimal ns.now
+entry_words (Bytes bs) = map decimal bs.now
 entry_words (Term letter t) = term_words (letter_code letter) t.now
+entry_words (Terms letter ts) = flat_map (term_words (letter_code letter)) ts.now
 
 -- the words of all entries, in order
 abbrev pub words_of_entries : List Entry → Words

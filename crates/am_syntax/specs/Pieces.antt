@@ -1,5 +1,5 @@
 -- Pieces of a text: how a value is spelled, which values are good, and how one is read.
-use Rattle.std.specs.Prelude.{◌≡◌, ℕ, zero, suc, ◌≤◌, ◌<◌, Bool, false, ◌&&◌, nat_le, if◌then◌else◌, List, [], ◌∷◌}
+use Rattle.std.specs.Prelude.{◌≡◌, ℕ, zero, suc, ◌≤◌, ◌<◌, Bool, false, ◌&&◌, nat_le, nat_lt, if◌then◌else◌, List, [], ◌∷◌}
 use Rattle.std.specs.Prelude.{◌++◌, length, Option, Some, None, Result, Ok, Err, bytes_eq, codes, decimal, IsTrue, ◌⊎◌}
 use Rattle.std.proofs.Common.{inl, inr}
 use Rattle.am_text.specs.Tokens.{Left, words}
@@ -49,6 +49,17 @@ number_judge least most v =
 -- a numeral from least to most
 unfoldable pub number : ℕ → ℕ → Piece ℕ
 number least most = token (number_judge least most) decimal (λ n. (least ≤ n) × (n ≤ most))
+
+abbrev pub below_judge : ℕ → ℕ → Word → Result ℕ Cause
+below_judge least count v =
+    if is_digits v
+    then (if is_canonical v && nat_le least (number_of v) && nat_lt (number_of v) count then Ok
+    (number_of v) else Err Number)
+    else Err Syntax
+
+-- a numeral from least on, below count
+unfoldable pub below : ℕ → ℕ → Piece ℕ
+below least count = token (below_judge least count) decimal (λ n. (least ≤ n) × (n < count))
 
 abbrev pub name_judge : (Word → Cause) → Word → Result Word Cause
 name_judge cause v = if is_name v then Ok v else Err (cause v)
@@ -137,6 +148,14 @@ choice test p q = record {
   spell = either_spelled p q;
   Good = either_good p q;
   read = λ s. if test (words s) then (p.read >>= λ x. done (inl x)) s else (q.read >>= λ y. done (inr y)) s;
+}
+
+-- a piece of which one more may stand here, or else Count at its first token
+abbrev pub one_more : {X : Type 0} → Bool → Piece X → Piece X
+one_more may p = record {
+  spell = p.spell;
+  Good = λ x. IsTrue may × p.Good x;
+  read = λ s. if may then p.read s else judged (λ _. Err Count) s;
 }
 
 -- ---- lists, whose items see the items before them

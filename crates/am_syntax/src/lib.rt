@@ -67,7 +67,8 @@ pub use refusal::{Cause, Failure, ReadError, Refusal};
 pub use terms::take_term;
 pub use text::{close, open, placed};
 pub use words::{
-    Closing, Each, Key, Name, Number, is_next, take_closing, take_key, take_name, take_number,
+    Below, Closing, Each, Key, Name, Number, is_next, refuse_next, take_below, take_closing,
+    take_key, take_name, take_number,
 };
 
 #[cfg(test)]

@@ -1,3 +1,5 @@
+//! Reading and printing at work: refusals at their places, and texts that read back.
+
 use super::*;
 use am_bv::{Row, Term, Width};
 use am_text::{Cursor, Writer};
@@ -230,6 +232,33 @@ fn numbers_have_a_range(rt: HostRuntime) -> Result<(), Fail> {
 }
 
 #[test]
+fn numbers_are_below_a_count(rt: HostRuntime) -> Result<(), Fail> {
+    let table: [(&str, u64, Result<u64, Cause>); 6] = [
+        ("1", 3, Ok(1)),
+        ("2", 3, Ok(2)),
+        ("3", 3, Err(Cause::Number)),
+        ("0", 3, Err(Cause::Number)),
+        ("1", 0, Err(Cause::Number)),
+        ("a", 0, Err(Cause::Syntax)),
+    ];
+    for (text, count, expected) in table {
+        let mut cursor = open(text.as_bytes())?;
+        assert_eq!(rt; take_below(&mut cursor, 1, count), expected);
+    }
+    Ok(())
+}
+
+#[test]
+fn the_next_token_is_refused(rt: HostRuntime) -> Result<(), Fail> {
+    let mut cursor = open(b" a")?;
+    assert_eq!(rt; refuse_next(&mut cursor, Cause::Count), Err(Cause::Count));
+    assert_eq!(rt; cursor.place(), 1);
+    let _ = cursor.next();
+    assert_eq!(rt; refuse_next(&mut cursor, Cause::Count), Err(Cause::Syntax));
+    Ok(())
+}
+
+#[test]
 fn names_have_sixteen_letters_at_most(rt: HostRuntime) -> Result<(), Fail> {
     let table: [(&str, Result<&[u8], Refusal>); 6] = [
         ("L", Ok(b"L")),
@@ -335,8 +364,15 @@ fn names_are_read_up_to_an_end(rt: HostRuntime) -> Result<(), Fail> {
 fn lines_have_one_space_between_words(rt: HostRuntime) -> Result<(), Fail> {
     let mut out = Writer::new(rt.alloc());
     print_line(&mut out, b"edge", &[Entry::Word(b"set"), Entry::Number(10)])?;
+    let lists = [
+        Entry::Numbers(&[7, u32::MAX]),
+        Entry::Bytes(&[]),
+        Entry::Bytes(&[0, 255]),
+    ];
+    print_line(&mut out, b"lists", &lists)?;
     print_word(&mut out, b"more")?;
-    assert_eq!(rt; out.finish().as_slice(), b"edge set 10\n more".as_slice());
+    let expected = b"edge set 10\nlists 7 4294967295 0 255\n more";
+    assert_eq!(rt; out.finish().as_slice(), expected.as_slice());
     Ok(())
 }
 

@@ -1,9 +1,9 @@
 //! Key words, numerals and names.
 
-ghost use Rattle.std.specs.Prelude.{◌≡◌, ◌≤◌, IfOk};
+ghost use Rattle.std.specs.Prelude.{◌≡◌, ◌<◌, ◌≤◌, Err, IfOk, OnOk};
 ghost use Rattle.am_text.specs.Tokens.{words};
-ghost use Rattle.am_syntax.specs.Pieces.{closing, key, name, next_is, number, number_judge};
-ghost use Rattle.am_syntax.specs.Readers.{Gives, Says};
+ghost use Rattle.am_syntax.specs.Pieces.{below, below_judge, closing, key, name, next_is, number, number_judge};
+ghost use Rattle.am_syntax.specs.Readers.{Gives, Says, judged};
 
 use crate::item::Item;
 use crate::judge::{Judge, take};
@@ -106,6 +106,46 @@ fn number_of(word: &[u8], least: u64, most: u64) -> Result<u64, Cause>
     }
 }
 
+/// A numeral of a number from `least` on, below `count`.
+#[derive(Clone, Copy)]
+pub struct Below {
+    pub least: u64,
+    pub count: u64,
+}
+
+impl<'a> Judge<'a> for Below {
+    ghost use Rattle.std.specs.Prelude.{ℕ, ◌<◌, ◌≤◌};
+    ghost use Rattle.am_syntax.specs.Pieces.{below_judge};
+
+    type Value = u64;
+
+    ghost Shown = { ℕ };
+
+    ghost view = { λ n. n };
+
+    ghost verdict = { λ own word. below_judge own.least own.count word };
+
+    ghost known = { λ own n. (own.least ≤ n) × (n < own.count) };
+
+    fn judge(&self, word: &'a [u8]) -> Result<u64, Cause> {
+        number_below(word, self.least, self.count)
+    }
+}
+
+fn number_below(word: &[u8], least: u64, count: u64) -> Result<u64, Cause>
+    ensures verdict { Says (λ n. n) result (below_judge least count word.now) }
+    ensures range { IfOk result (λ n. (least ≤ n) × (n < count)) }
+{
+    if numerals::is_digits(word) {
+        match numerals::number_of(word) {
+            Some(n) if numerals::is_canonical(word) && least <= n && n < count => Ok(n),
+            _ => Err(Cause::Number),
+        }
+    } else {
+        Err(Cause::Syntax)
+    }
+}
+
 /// A nonterminal's name.
 #[derive(Clone, Copy)]
 pub struct Name;
@@ -130,6 +170,31 @@ impl<'a> Judge<'a> for Name {
         } else {
             Err(Cause::Syntax)
         }
+    }
+}
+
+/// No token.
+#[derive(Clone, Copy)]
+struct Nothing {
+    /// Why each is refused.
+    cause: Cause,
+}
+
+impl<'a> Judge<'a> for Nothing {
+    ghost use Rattle.std.specs.Prelude.{Err};
+
+    type Value = ();
+
+    ghost Shown = { Unit {0} };
+
+    ghost view = { λ _. tt };
+
+    ghost verdict = { λ own _. Err own.cause };
+
+    ghost known = { λ _ _. ⊥ };
+
+    fn judge(&self, _word: &'a [u8]) -> Result<(), Cause> {
+        Err(self.cause)
     }
 }
 
@@ -195,6 +260,27 @@ pub fn take_number(text: &mut Cursor<'_>, least: u64, most: u64) -> Result<u64, 
     ensures range { IfOk result (λ n. (least ≤ n) × (n ≤ most)) }
 {
     take(text, &Number { least, most })
+}
+
+/// Takes a numeral of a number from `least` on, below `count`.
+#[tactic(auto, unfolding(crate::specs::Pieces::below))]
+pub fn take_below(text: &mut Cursor<'_>, least: u64, count: u64) -> Result<u64, Cause>
+    ensures value { Gives (λ n. n) result text.old text.new (below least count).read }
+    ensures range { IfOk result (λ n. (least ≤ n) × (n < count)) }
+{
+    take(text, &Below { least, count })
+}
+
+/// Refuses the next token, whatever it is, for this cause.
+///
+/// # Errors
+///
+/// Always: the cause, or `Syntax` at the end of the text. The cursor stays.
+pub fn refuse_next(text: &mut Cursor<'_>, cause: Cause) -> Result<(), Cause>
+    ensures value { Gives (λ _. tt) result text.old text.new (judged {X = Unit {0}} (λ _. Err cause)) }
+    ensures never { OnOk result ⊥ }
+{
+    take(text, &Nothing { cause })
 }
 
 /// Takes a nonterminal's name.

@@ -1,4 +1,4 @@
-//! Tokens, cursors and writers at work.
+//! Tokens, cursors, writers and gathered streams at work.
 
 use super::*;
 use std::alloc::{AllocError, Global};
@@ -98,5 +98,28 @@ fn written(alloc: Global) -> Result<Vec<u8>, AllocError> {
 fn words_and_numbers_are_written(rt: HostRuntime) -> Result<(), Fail> {
     let expected = b"make 0\nload 340282366920938463463374607431768211455\n";
     assert_eq!(rt; written(rt.alloc())?.as_slice(), expected.as_slice());
+    Ok(())
+}
+
+/// The pieces joined, of at most four bytes.
+fn gathered(alloc: Global, pieces: [&str; 3]) -> Result<Vec<u8>, GatherEnd> {
+    let mut gather = Gather::new(alloc, 4);
+    for piece in pieces {
+        let _ = gather.push(piece.as_bytes());
+    }
+    gather.end()
+}
+
+#[test]
+fn pieces_are_joined_up_to_a_limit(rt: HostRuntime) -> Result<(), Fail> {
+    let alloc = rt.alloc();
+    assert_eq!(rt; gathered(alloc, ["", "", ""])?.as_slice(), b"".as_slice());
+    assert_eq!(rt;
+        gathered(alloc, ["ma", "", "ke"])?.as_slice(),
+        b"make".as_slice()
+    );
+    for pieces in [["ma", "ke", "s"], ["makes", "", ""], ["m", "akes ", "1"]] {
+        assert_eq!(rt; gathered(alloc, pieces).err(), Some(GatherEnd::Long));
+    }
     Ok(())
 }

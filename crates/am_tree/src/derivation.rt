@@ -1,11 +1,11 @@
 //! What derives from a grammar, and the terms that trees give.
 
 ghost use Rattle.std.specs.Prelude.{◌≡◌, ◌<◌, ◌↔◌, IfOk, IsTrue, length};
-ghost use Rattle.am_tree.specs.Trees.{Derives, HasDerivation, term_of};
+ghost use Rattle.am_tree.specs.Trees.{AreTrees, Derives, HasDerivation, term_of, terms_of};
 
 use crate::grammar::{Grammar, Production};
-use crate::tree::Tree;
-use am_bv::{Row, Term};
+use crate::tree::{Tree, Trees};
+use am_bv::{Row, Term, Terms};
 use std::alloc::{AllocError, Global};
 
 impl Grammar {
@@ -53,5 +53,18 @@ impl Grammar {
                 Ok(Term::Node(*op, terms))
             }
         }
+    }
+
+    /// The terms of a tuple of trees, one from each start.
+    pub fn terms_of(&self, alloc: Global, trees: &Trees) -> Result<Terms, AllocError>
+        requires { AreTrees self.now.rules self.now.starts self.now.depth trees.now }
+        ensures { IfOk result (λ t. t ≡ terms_of self.now.rules self.now.starts trees.now) }
+    {
+        let mut terms = Terms::new(alloc);
+        for (i, tree) in trees.as_slice().iter().enumerate() {
+            let term = self.term_of(alloc, *self.starts.get(i), tree)?;
+            terms.push(term)?;
+        }
+        Ok(terms)
     }
 }

@@ -33,8 +33,9 @@
 //! [`Grammar::new`] is None exactly outside the limits, `IsGrammar`. [`Grammar::derives`] is true exactly
 //! where the tree derives, by the one relation `Derives`: its production is one of the nonterminal's,
 //! and it has one child for each argument, which derives from it with one depth less; nothing derives
-//! with depth 0. [`Grammar::term_of`] is the tree's term. [`Grammar::find_tree`] answers a tree that
-//! derives and gives the term, and None **exactly where no tree does**.
+//! with depth 0. [`Grammar::term_of`] is the tree's term, and [`Grammar::terms_of`] has the terms of a tuple
+//! of trees, one from each start. [`Grammar::find_tree`] answers a tree that derives and gives the term,
+//! and None **exactly where no tree does**.
 //!
 //! [`Grammar::count`] is the number of tuples of trees, one from each start, and None exactly where it is
 //! 2^128 or more. [`Grammar::layout`] is the list of slots in level order, each with the numbers of its

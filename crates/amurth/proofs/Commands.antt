@@ -1,39 +1,62 @@
--- Words that call for a command, and what is due to a problem.
-use Rattle.std.proofs.Common.{◌≡◌, ℕ, List, [], ◌∷◌, length, inl, inr, ap, subst, ◌∙◌, arith}
-use Rattle.std.specs.Prelude.{IfSome, MatchOption, None, Option, Some, slice_get}
-use Rattle.amurth.specs.Command.{IsCommand, name_of}
-use Rattle.amurth.specs.Run.{IsDue, IsProblemText, IsReply}
-use Rattle.amurth.specs.declared.command.Command.{Command}
-use Rattle.amurth.specs.declared.status.Status.{Status}
-use Rattle.amurth.specs.declared.status.Status.TheVariants.{Done, NoMemory, ReadFault, Refused, Usage, WriteFault}
-use Rattle.am_problem.specs.Problem.{Problem}
+-- Words that call for a command.
+use Rattle.std.proofs.Common.{◌≡◌, ℕ, ◌<◌, ◌≤◌, ◌^◌, true, cond, ◌&&◌, nat_le, List, [], ◌∷◌, Ok, Err, Result, decimal, length}
+use Rattle.std.proofs.Common.{ap, arith, inl, inr, lit<, subst, sym, ◌∙◌}
+use Rattle.std.specs.Prelude.{Some, slice_get}
+use Rattle.std.proofs.lemmas.Bool.{and_from, and_parts, le-leb}
+use Rattle.am_problem.specs.declared.generator.TheConstants.{LAST_PROBLEM}
+use Rattle.am_syntax.specs.declared.refusal.Cause.{Cause}
+use Rattle.am_syntax.specs.declared.refusal.Cause.TheVariants.{Number, Syntax}
+use Rattle.am_syntax.specs.Numerals.{is_canonical, is_digits, number_of}
+use Rattle.am_syntax.specs.Pieces.{number_judge}
+use Rattle.am_syntax.specs.Readers.{Word}
+use Rattle.am_syntax.proofs.Laws.{chosen, cond_ok, decimal-is_canonical, decimal-is_digits, decimal-number_of, digits_decimal_of}
+
+-- ---- lists of few words
 
 -- a list of one word
-pub one_word : (words : List (List ℕ)) (word : List ℕ) → length words ≡ 1 → slice_get words 0 ≡ Some word → words ≡ word ∷ []
-one_word [] word l g = absurd (omega (arith, l))
-one_word (w ∷ []) word l g = let same : w ≡ word = cc in ap (λ (x : List ℕ). x ∷ []) same
-one_word (w ∷ v ∷ vs) word l g = absurd (omega (arith, l))
+pub one_word : (words : List Word) (v : Word) → length words ≡ 1 → slice_get words 0 ≡ Some v → words ≡ v ∷ []
+one_word [] v l at = absurd (omega (arith, l))
+one_word (w ∷ []) v l at = cc
+one_word (w ∷ x ∷ ws) v l at = absurd (omega (arith, l))
 
--- the command that a word names is the one that the words call for
-pub named_words : (r : Option Command) (words : List (List ℕ)) (word : List ℕ) → words ≡ word ∷ [] →
-    MatchOption r ((c : Command) → ¬ (word ≡ name_of c)) (λ c. word ≡ name_of c) →
-    MatchOption r ((c : Command) → ¬ IsCommand words c) (IsCommand words)
-named_words None words word e h = λ c is. let same : word ≡ name_of c = cc in h c same
-named_words (Some c) words word e h = e ∙ ap (λ (x : List ℕ). x ∷ []) h
+-- a list of two words
+pub two_words : (words : List Word) (v u : Word) → length words ≡ 2 → slice_get words 0 ≡ Some v →
+    slice_get words 1 ≡ Some u → words ≡ v ∷ u ∷ []
+two_words [] v u l first second = absurd (omega (arith, l))
+two_words (w ∷ []) v u l first second = absurd (omega (arith, l))
+two_words (w ∷ x ∷ []) v u l first second = cc
+two_words (w ∷ x ∷ y ∷ ws) v u l first second = absurd (omega (arith, l))
 
--- the response to a problem is due to its text
-pub due_of_reply : (command : Command) (p : Problem) (input : List ℕ) → IsProblemText input p → (s : Status) (written : List ℕ) →
-    IsReply command p s written → IsDue command s input written
-due_of_reply command p input text Done written h = record { problem = p; text = text; small = h.0; answers = h.1 }
-due_of_reply command p input text Refused written h =
-    inr (inr (record { problem = p; text = text; refusal = h.0; large = h.1; line = h.2 }))
-due_of_reply command p input text Usage written h = absurd h
-due_of_reply command p input text ReadFault written h = absurd h
-due_of_reply command p input text WriteFault written h = absurd h
-due_of_reply command p input text NoMemory written h = absurd h
+-- ---- numbers of made problems
 
--- what holds of a text that was read holds of the input, where that is told
-pub of_input : (P : List ℕ → Type 0) (left : Option (List ℕ)) (text slice : List ℕ) → IfSome left (λ all. text ≡ all) → slice ≡ text →
-    P slice → IfSome left P
-of_input P None text slice whole same h = tt
-of_input P (Some all) text slice whole same h = subst P (same ∙ whole) h
+small_number : (n : ℕ) → n ≤ LAST_PROBLEM → n < 2 ^ 64
+small_number n few = let large : 999999 < 2 ^ 64 = lit< tt in omega (arith, few, large)
+
+-- a numeral that passes is the decimal text of its number
+pub judged_numeral : (v : Word) (n : ℕ) → n ≤ LAST_PROBLEM → number_judge 0 LAST_PROBLEM v ≡ Ok n → v ≡ decimal n
+judged_numeral v n few e =
+    elim (chosen (is_digits v) (cond (is_canonical v && nat_le 0 (number_of v) && nat_le (number_of v) LAST_PROBLEM)
+    (Ok (number_of v)) (Err Number)) (Err Syntax) (Ok n) e) [
+      | inl digits ↦
+          let given = cond_ok _ (number_of v) Number n digits.1 in
+          let tests = and_parts _ _ given.0 in
+          let front = and_parts _ _ tests.0 in
+          let small = subst (λ (m : ℕ). m < 2 ^ 64) (sym given.1) (small_number n few) in
+          digits_decimal_of v digits.0 front.0 small ∙ ap decimal given.1
+      | inr other ↦ absurd (let e : ◌≡◌ {A = Result ℕ Cause} (Err Syntax) (Ok n) = other.1 in cc)
+    ]
+
+-- the decimal text of each number passes
+pub numeral_judged : (n : ℕ) → n ≤ LAST_PROBLEM → number_judge 0 LAST_PROBLEM (decimal n) ≡ Ok n
+numeral_judged n few =
+    let fits = small_number n few in
+    let number = decimal-number_of n fits in
+    let low : nat_le 0 (number_of (decimal n)) ≡ true = le-leb 0 (number_of (decimal n)) (omega arith) in
+    let high : nat_le (number_of (decimal n)) LAST_PROBLEM ≡ true =
+    ap (λ m. nat_le m LAST_PROBLEM) number ∙ le-leb n LAST_PROBLEM few in
+    ap (λ b. cond b (cond (is_canonical (decimal n) && nat_le 0
+    (number_of (decimal n)) && nat_le (number_of (decimal n)) LAST_PROBLEM) (Ok (number_of (decimal n))) (Err Number))
+    (Err Syntax)) (decimal-is_digits n fits)
+    ∙ ap (λ b. cond b (Ok (number_of (decimal n))) (Err Number))
+    (and_from _ _ (and_from _ _ (decimal-is_canonical n fits) low) high)
+    ∙ ap (λ m. Ok m) number

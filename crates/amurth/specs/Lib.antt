@@ -1,5 +1,10 @@
-pub mod Answer
 pub mod Command
-pub mod Refusals
+pub mod Lines
+pub mod Synthesised
+pub mod Checked
+pub mod Listed
+pub mod Made
+pub mod Analysed
 pub mod Run
 pub mod Status
+pub mod inside

@@ -1,32 +1,29 @@
 //! The words of a command line, and the commands that they call for.
 
-ghost use Rattle.std.specs.Prelude.{◌≡◌, ◌<◌, [], ◌∷◌, ◌++◌, length, map, drop, slice_get, string_bytes};
-ghost use Rattle.std.specs.Prelude.{IfOk, MatchOption, OnErr, OnOk};
-ghost use Rattle.amurth.specs.Command.{IsCommand, name_of};
+ghost use Rattle.std.specs.Prelude.{◌≡◌, ◌≢◌, ◌<◌, ◌≤◌, ℕ, [], ◌∷◌, ◌++◌, decimal, length, map, drop, slice_get};
+ghost use Rattle.std.specs.Prelude.{IfOk, MatchOption, OnErr, OnOk, string_bytes};
+ghost use Rattle.am_problem.specs.declared.generator.TheConstants.{LAST_PROBLEM};
+ghost use Rattle.amurth.specs.Command.{IsCommand};
 ghost use Rattle.amurth.specs.declared.command.Command.{Command as Named};
 
+use am_problem::LAST_PROBLEM;
+use am_syntax::{Judge, Number};
 use std::alloc::{AllocError, Global};
 use std::marker::Model;
 
 /// What a run is asked to do.
 #[derive(Clone, Copy, PartialEq, Eq, Debug)]
 pub enum Command {
-    /// Write best terms for a problem.
+    /// Synthesise a best transformer of a problem, and write its certificate.
     Synth,
-    /// Write all tuples of trees of a problem whose terms are best.
+    /// Check a certificate.
+    Check,
+    /// Check certificates, and analyse a flow with their transformers.
+    Analyse,
+    /// Write all tuples of trees of a small problem whose terms are best.
     List,
-}
-
-impl Command {
-    /// The word that calls for the command.
-    pub fn name(self) -> &'static [u8]
-        ensures { result.now ≡ name_of self }
-    {
-        match self {
-            Command::Synth => b"synth",
-            Command::List => b"list",
-        }
-    }
+    /// Synthesise a best transformer of the problem with this number, and write a summary.
+    Make(u32),
 }
 
 /// The words of a command line, without the program's name.
@@ -81,24 +78,61 @@ impl CommandWords {
     pub fn command(&self) -> Option<Command>
         ensures { MatchOption result ((c : Named) → ¬ IsCommand self.now c) (IsCommand self.now) }
     {
-        if self.len() != 1 {
-            return None;
+        match self.len() {
+            1 => named(self.get(0)),
+            2 => numbered(self.get(0), self.get(1)),
+            _ => None,
         }
-        named(self.get(0))
     }
 }
 
-/// The command of this name.
+/// The command that one word calls for.
 fn named(word: &[u8]) -> Option<Command>
-    ensures { MatchOption result ((c : Named) → ¬ (word.now ≡ name_of c)) (λ c. word.now ≡ name_of c) }
+    ensures { let words = word.now ∷ [] in
+        MatchOption result ((c : Named) → ¬ IsCommand words c) (IsCommand words) }
 {
-    if word == Command::Synth.name() {
+    if word == b"synth".as_slice() {
         return Some(Command::Synth);
     }
-    if word == Command::List.name() {
+    if word == b"check".as_slice() {
+        return Some(Command::Check);
+    }
+    if word == b"analyse".as_slice() {
+        return Some(Command::Analyse);
+    }
+    if word == b"list".as_slice() {
         return Some(Command::List);
     }
     None
+}
+
+/// The command that a word and a number call for.
+fn numbered(word: &[u8], number: &[u8]) -> Option<Command>
+    ensures { let words = word.now ∷ number.now ∷ [] in
+        MatchOption result ((c : Named) → ¬ IsCommand words c) (IsCommand words) }
+{
+    if word != b"make".as_slice() {
+        return None;
+    }
+    match problem_number(number) {
+        Some(number) => Some(Command::Make(number)),
+        None => None,
+    }
+}
+
+/// The number of a made problem, from its decimal digits without leading zeros.
+fn problem_number(digits: &[u8]) -> Option<u32>
+    ensures { MatchOption result ((n : ℕ) → n ≤ LAST_PROBLEM → digits.now ≢ decimal n)
+        (λ n. (digits.now ≡ decimal n) × (n ≤ LAST_PROBLEM)) }
+{
+    let numbers = Number {
+        least: 0,
+        most: u64::from(LAST_PROBLEM),
+    };
+    match numbers.judge(digits) {
+        Ok(number) => Some(number as u32),
+        Err(_) => None,
+    }
 }
 
 /// The words of a command line: all arguments but the first, which is the program's name, in order.

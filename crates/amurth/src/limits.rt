@@ -1,4 +1,4 @@
-//! Limits of the program.
+//! How much is read.
 
-/// The most bytes of an input.
-pub const MOST_BYTES: usize = 1 << 26;
+/// How many certificates may stand before a flow.
+pub const MOST_CERTIFICATES: usize = 16;

@@ -1,15 +1,31 @@
-//! Amurth synthesises best abstract transformers.
+//! Amurth synthesises best abstract transformers, and checks the certificates that show them.
+//!
+//! ```text
+//! amurth synth < problem      # writes the certificate of a best transformer
+//! amurth check < certificate  # writes that it is accepted, or why it isn't
+//! amurth list < problem       # writes all best transformers of a small problem
+//! amurth make 7               # writes a summary of the problem with this number
+//! ```
+//!
+//! The exit codes are those of [`status::Status::code`].
 #![tactic(auto)]
 
+mod analysing;
+mod answering;
+mod checking;
 mod command;
+mod feeding;
+mod inputs;
 mod limits;
-mod refusals;
+mod lines;
+mod listing;
+mod making;
 mod response;
 mod running;
 mod status;
+mod synthesising;
 #[cfg(test)]
 mod tests;
-mod texts;
 
 use am_io::{StdSink, StdSource};
 use command::{CommandWords, command_words};

@@ -18,6 +18,12 @@ pub enum Status {
     NoMemory,
     /// The input was refused, and a line that says why was written.
     Refused,
+    /// A synthesis made one turn more than may be spent, and the certificate that says so was written.
+    SpentTurns,
+    /// A synthesis derived as many clauses for a query as may be spent, and the certificate that says so was written.
+    SpentConflicts,
+    /// A certificate wasn't accepted, and a line that says why was written.
+    Rejected,
 }
 
 impl Status {
@@ -32,6 +38,9 @@ impl Status {
             Status::WriteFault => 4,
             Status::NoMemory => 5,
             Status::Refused => 6,
+            Status::SpentTurns => 7,
+            Status::SpentConflicts => 8,
+            Status::Rejected => 9,
         }
     }
 }

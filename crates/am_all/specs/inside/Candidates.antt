@@ -4,7 +4,7 @@ use Rattle.am_bv.specs.Terms.{val}
 use Rattle.am_bv.specs.declared.term.Term.{Term}
 use Rattle.am_problem.specs.Problem.{Problem}
 use Rattle.am_tree.specs.Trees.{term_of}
-use Rattle.am_all.specs.Listed.{trees_of}
+use Rattle.am_tree.specs.Listed.{trees_of}
 use Rattle.am_all.specs.declared.candidates.Candidate.{Candidate}
 use Rattle.am_all.specs.declared.cases.Case.{Case}
 

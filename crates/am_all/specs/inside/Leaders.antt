@@ -7,7 +7,7 @@ use Rattle.am_problem.specs.Kinds.{fields_of}
 use Rattle.am_problem.specs.Problem.{Problem}
 use Rattle.am_tree.specs.declared.tree.Tree.{Tree}
 use Rattle.am_tree.specs.Trees.{terms_of}
-use Rattle.am_all.specs.Listed.{tuples_of}
+use Rattle.am_tree.specs.Listed.{tuples_of}
 use Rattle.am_all.specs.declared.candidates.Candidate.{Candidate}
 use Rattle.am_all.specs.declared.cases.Case.{Case}
 use Rattle.am_all.specs.declared.word_set.WordSet.{WordSet}

@@ -2,7 +2,7 @@
 use Rattle.std.specs.Prelude.{◌≡◌, ℕ, ◌<◌, Bool, true, false, List, [], length, slice_index_or}
 use Rattle.am_tree.specs.Trees.{Rules}
 use Rattle.am_tree.specs.declared.tree.Tree.{Tree}
-use Rattle.am_all.specs.Listed.{trees_of}
+use Rattle.am_tree.specs.Listed.{trees_of}
 
 -- where a nonterminal's entry is false, a function lists no tree for it
 abbrev pub IsTold : (ℕ → List Tree) → List Bool → Type 0

@@ -1,7 +1,7 @@
 use Rattle.std.proofs.Common.{◌≡◌, [], length, refl, arith}
 use Rattle.am_problem.specs.Kinds.{fields_of}
 use Rattle.am_all.specs.AllBest.{ends}
-use Rattle.am_all.specs.Listed.{trees_of, tuples_of}
+use Rattle.am_tree.specs.Listed.{trees_of, tuples_of}
 use Rattle.am_all.specs.inside.Levels.{AreLevels, IsTold}
 use Rattle.am_all.proofs.NumberLaws.{one-less}
 use Rattle.am_all.proofs.TreeLists.{levels-below, levels-last}

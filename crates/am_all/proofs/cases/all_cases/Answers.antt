@@ -1,7 +1,7 @@
 use Rattle.std.specs.List.{AllZip}
 use Rattle.std.proofs.Common.{replicate}
 use Rattle.std.proofs.lemmas.Result.{IfOk-weaker}
-use Rattle.am_all.specs.Choices.{choices}
+use Rattle.am_tree.specs.Listed.{choices}
 use Rattle.am_all.specs.inside.Cases.{AreCases, IsCaseBy}
 use Rattle.am_all.proofs.InputLaws.{all-cases}
 use Rattle.am_all.proofs.cases.all_cases.Goals as goal

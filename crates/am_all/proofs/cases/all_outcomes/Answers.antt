@@ -1,6 +1,6 @@
 use Rattle.std.proofs.Common.{replicate}
 use Rattle.std.proofs.lemmas.Result.{IfOk-weaker}
-use Rattle.am_all.specs.Choices.{choices}
+use Rattle.am_tree.specs.Listed.{choices}
 use Rattle.am_all.specs.inside.Cases.{AreOutcomes, AreOutcomesAt}
 use Rattle.am_all.proofs.InputLaws.{all-outcomes, all-tuples}
 use Rattle.am_all.proofs.cases.all_outcomes.Goals as goal

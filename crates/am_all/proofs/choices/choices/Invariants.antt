@@ -1,5 +1,5 @@
 use Rattle.std.proofs.Common.{◌≡◌, map, take}
-use Rattle.am_all.specs.Choices.{choices}
+use Rattle.am_tree.specs.Listed.{choices}
 use Rattle.am_all.proofs.choices.choices.Given as goal
 
 abbrev pub invariant-loop-list : goal.invariant-loop-list

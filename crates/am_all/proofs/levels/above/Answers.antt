@@ -1,6 +1,6 @@
 use Rattle.std.proofs.Common.{◌≡◌, ℕ, suc, [], length-append, arith, subst}
 use Rattle.std.specs.Prelude.{All, false, true}
-use Rattle.am_all.specs.Listed.{trees_by, trees_of}
+use Rattle.am_tree.specs.Listed.{trees_by, trees_of}
 use Rattle.std.proofs.lemmas.List.{get_or_read}
 use Rattle.am_all.proofs.Lists.{each-push}
 use Rattle.am_all.proofs.TreeLists.{trees_of-none}

@@ -1,6 +1,6 @@
 use Rattle.std.proofs.Common.{◌≡◌, ℕ, suc, ◌<◌, [], length}
 use Rattle.std.specs.Prelude.{false, true, slice_index_or}
-use Rattle.am_all.specs.Listed.{trees_of}
+use Rattle.am_tree.specs.Listed.{trees_of}
 use Rattle.am_all.specs.inside.Levels.{IsTold}
 use Rattle.am_all.proofs.levels.above.Given as goal
 

@@ -2,7 +2,7 @@ use Rattle.std.proofs.Common.{◌≡◌, ℕ, [], refl, subst}
 use Rattle.std.proofs.lemmas.List.{take_all}
 use Rattle.std.proofs.lemmas.List.Elements.{All-more}
 use Rattle.std.specs.Prelude.{All}
-use Rattle.am_all.specs.Listed.{trees_by}
+use Rattle.am_tree.specs.Listed.{trees_by}
 use Rattle.am_all.proofs.TreeLists.{trees_by-none}
 use Rattle.am_all.proofs.levels.has_tree.Goals as goal
 

@@ -1,7 +1,7 @@
 use Rattle.std.proofs.Common.{◌≡◌, ℕ, List, [], take}
 use Rattle.std.specs.Prelude.{All}
 use Rattle.am_tree.specs.declared.tree.Tree.{Tree}
-use Rattle.am_all.specs.Listed.{trees_by}
+use Rattle.am_tree.specs.Listed.{trees_by}
 use Rattle.am_all.specs.inside.Levels.{IsTold}
 use Rattle.am_all.proofs.levels.has_tree.Given as goal
 

@@ -1,5 +1,5 @@
 use Rattle.std.proofs.Common.{ℕ, suc, ◌+◌, ◌<◌, [], length, get_or, length-append, ap, sym, subst, add-one, arith}
-use Rattle.am_all.specs.Listed.{trees_of}
+use Rattle.am_tree.specs.Listed.{trees_of}
 use Rattle.am_all.specs.inside.Levels.{IsTold}
 use Rattle.am_all.proofs.Lists.{each-push}
 use Rattle.am_all.proofs.levels.levels.Goals as goal

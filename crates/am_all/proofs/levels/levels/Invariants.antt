@@ -1,5 +1,5 @@
 use Rattle.std.proofs.Common.{◌≡◌, length}
-use Rattle.am_all.specs.Listed.{trees_of}
+use Rattle.am_tree.specs.Listed.{trees_of}
 use Rattle.am_all.specs.inside.Levels.{AreLevels, IsTold}
 use Rattle.am_all.proofs.levels.levels.Given as goal
 

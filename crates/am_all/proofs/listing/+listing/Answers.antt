@@ -2,7 +2,7 @@ use Rattle.std.proofs.Common.{◌≡◌, ℕ, suc, ◌+◌, ◌<◌, ◌≤◌, 
 use Rattle.std.proofs.lemmas.List.{take_all}
 use Rattle.std.proofs.lemmas.Option.{get_or_from_slice_get, slice_get_read}
 use Rattle.am_tree.proofs.Laws.{each-few, formed-at}
-use Rattle.am_all.specs.Listed.{trees_of}
+use Rattle.am_tree.specs.Listed.{trees_of}
 use Rattle.am_all.proofs.TreeLists.{trees_from, trees_from-more, trees_of-zero, trees_of-suc, levels-last, levels-below}
 use Rattle.am_all.proofs.listing.+listing.Goals as goal
 

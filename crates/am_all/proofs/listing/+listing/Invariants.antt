@@ -1,5 +1,5 @@
 use Rattle.std.proofs.Common.{◌≡◌, ◌+◌, ◌*◌, map, take, length}
-use Rattle.am_all.specs.Listed.{trees_of}
+use Rattle.am_tree.specs.Listed.{trees_of}
 use Rattle.am_all.proofs.TreeLists.{trees_from}
 use Rattle.am_all.proofs.listing.+listing.Given as goal
 

@@ -1,11 +1,12 @@
-use Rattle.std.proofs.Common.{◌≡◌, true, subst, arith}
+use Rattle.std.proofs.Common.{◌≡◌, ◌≤◌, true, length, subst, arith}
 use Rattle.am_lit.specs.Truth.{Satisfies, value_at}
-use Rattle.am_slot.specs.Template.{decoded, terms_of}
 use Rattle.am_solve.specs.Answers.{IsAnswer}
-use Rattle.am_query.specs.Formulas.{circuit_of, encoding_of}
+use Rattle.am_query.specs.Formulas.{circuit_of}
+use Rattle.am_query.specs.QueryLaws.{AreExamples}
+use Rattle.am_query.specs.Witnesses.{chosen_terms}
 use Rattle.am_query.specs.declared.query.Query.TheVariants.{Fit}
-use Rattle.am_query.proofs.Blocks.{tuple_derivable}
-use Rattle.am_query.proofs.Fitting.{fit_found, fit_satisfiable}
+use Rattle.am_query.proofs.Answering.{refuted_by, spent_by}
+use Rattle.am_query.proofs.Fitting.{fit_found, fits_are_chosen, unsatisfied_fit_has_none}
 use Rattle.am_query.proofs.fit_query.fit.Goals as goal
 
 pub decode-requires : goal.decode-requires
@@ -14,15 +15,27 @@ decode-requires c =
     let sat = subst (IsAnswer formula.clauses formula.vars c.args.limit) c.in-Sat.is c.in_ok-assignment.ensures.answer in
     omega (arith, sat.0, c.in_ok-stated.ensures.selectors)
 
-pub terms-requires : goal.terms-requires
-terms-requires c =
+pub terms_of-requires : goal.terms_of-requires
+terms_of-requires c =
     let p = c.args.p.now in
+    let pos = c.args.pos.now in
+    let neg = c.args.neg.now in
     let v = value_at c.in-Sat.assignment.values in
     let formula = c.in_ok-stated.stated.formula in
     let sat = subst (IsAnswer formula.clauses formula.vars c.args.limit) c.in-Sat.is c.in_ok-assignment.ensures.answer in
-    let satisfied : Satisfies v (circuit_of true p (Fit c.args.pos.now c.args.neg.now)).clauses = rw c.in_ok-stated.ensures.stated.clauses at sat.1 in
-    let chosen = fit_found p c.keeps_limits.ensures.formed c.args.pos.now c.args.neg.now c.requires.examples.positives c.requires.examples.negatives true v satisfied in
-    rw (c.grammar.ensures.rules, c.grammar.ensures.starts, c.grammar.ensures.depth, c.in_ok-trees-in-Sat.ensures.trees, c.in_ok-stated.ensures.template) chosen.serves.derived
+    let satisfied : Satisfies v (circuit_of true p (Fit pos neg)).clauses =
+    rw c.in_ok-stated.ensures.stated.clauses at sat.1 in
+    let examples = c.requires.examples in
+    let chosen =
+    fit_found p c.keeps_limits.ensures.formed pos neg examples.positives examples.negatives true v satisfied in
+    rw (
+      c.grammar.ensures.rules,
+      c.grammar.ensures.starts,
+      c.grammar.ensures.depth,
+      c.in_ok-trees-in-Sat.ensures.trees,
+      c.in_ok-stated.ensures.template,
+    )
+    chosen.serves.derived
 
 pub returns-in-Sat-clause-answer : goal.returns-in-Sat-clause-answer
 returns-in-Sat-clause-answer c =
@@ -30,20 +43,53 @@ returns-in-Sat-clause-answer c =
     let v = value_at c.in-Sat.assignment.values in
     let formula = c.in_ok-stated.stated.formula in
     let sat = subst (IsAnswer formula.clauses formula.vars c.args.limit) c.in-Sat.is c.in_ok-assignment.ensures.answer in
-    let satisfied : Satisfies v (circuit_of true p (Fit c.args.pos.now c.args.neg.now)).clauses = rw c.in_ok-stated.ensures.stated.clauses at sat.1 in
-    let chosen = fit_found p c.keeps_limits.ensures.formed c.args.pos.now c.args.neg.now c.requires.examples.positives c.requires.examples.negatives true v satisfied in
-    let term : c.in_ok-term-in-Sat.term ≡ terms_of (encoding_of p) (decoded (encoding_of p) v) =
-    rw (c.grammar.ensures.rules, c.grammar.ensures.starts, c.in_ok-trees-in-Sat.ensures.trees, c.in_ok-stated.ensures.template) at c.in_ok-term-in-Sat.ensures in
-    rw term (tuple_derivable p c.keeps_limits.ensures.formed (decoded (encoding_of p) v) chosen.serves.derived, chosen.suits)
+    let satisfied : Satisfies v (circuit_of true p (Fit c.args.pos.now c.args.neg.now)).clauses =
+    rw c.in_ok-stated.ensures.stated.clauses at sat.1 in
+    let examples : AreExamples p c.args.pos.now c.args.neg.now = record {
+      formed = c.keeps_limits.ensures.formed;
+      positives_stored = c.requires.examples.positives;
+      negatives_stored = c.requires.examples.negatives;
+    } in
+    let term : c.in_ok-term-in-Sat.term ≡ chosen_terms p v =
+    rw (
+      c.grammar.ensures.rules,
+      c.grammar.ensures.starts,
+      c.in_ok-trees-in-Sat.ensures.trees,
+      c.in_ok-stated.ensures.template,
+    ) at c.in_ok-term-in-Sat.ensures in
+    rw term (fits_are_chosen true p c.args.pos.now c.args.neg.now examples v satisfied)
+
+pub refutation-requires : goal.refutation-requires
+refutation-requires c =
+    let unsat = rw c.in-Unsat.is at c.in_ok-assignment.ensures.answer in
+    record {
+      refutes = unsat.0;
+      short = unsat.2;
+      few_clauses = c.in_ok-stated.ensures.stated.few_clauses;
+      few_chains = omega (arith, unsat.1, c.requires.most);
+    }
 
 pub returns-in-Unsat-clause-answer : goal.returns-in-Unsat-clause-answer
 returns-in-Unsat-clause-answer c =
     let p = c.args.p.now in
-    let formula = c.in_ok-stated.stated.formula in
-    let stated = c.in_ok-stated.ensures.stated in
-    let unsat = subst (IsAnswer formula.clauses formula.vars c.args.limit) c.in-Unsat.is c.in_ok-assignment.ensures.answer in
-    let refutes = rw stated.clauses at unsat.0 in (
-      λ terms is suits. c.refutations_are_sound.ensures _ c.in-Unsat.log refutes
-          (fit_satisfiable p c.keeps_limits.ensures.formed c.args.pos.now c.args.neg.now c.requires.examples.positives c.requires.examples.negatives true terms is suits),
-      record { refutes = refutes; few = unsat.1; short = rw stated.vars at unsat.2 },
+    let q = Fit c.args.pos.now c.args.neg.now in
+    let kept = c.in_ok-kept-in-Unsat in
+    let unsat = rw c.in-Unsat.is at c.in_ok-assignment.ensures.answer in
+    let few : length kept.kept ≤ c.args.limit = omega (arith, unsat.1, kept.ensures.fewer) in
+    let refuted = refuted_by p q c.in_ok-stated.stated c.in_ok-stated.ensures.stated c.args.limit kept.kept
+    (kept.ensures.refutes, few, kept.ensures.short) in
+    let examples : AreExamples p c.args.pos.now c.args.neg.now = record {
+      formed = c.keeps_limits.ensures.formed;
+      positives_stored = c.requires.examples.positives;
+      negatives_stored = c.requires.examples.negatives;
+    } in (
+      unsatisfied_fit_has_none true p c.args.pos.now c.args.neg.now examples
+          (c.refutations_are_sound.ensures (circuit_of true p q).clauses kept.kept refuted.refutes),
+      refuted,
     )
+
+pub returns-clause-answer : goal.returns-clause-answer
+returns-clause-answer c =
+    let q = Fit c.args.pos.now c.args.neg.now in
+    spent_by c.args.p.now q c.in_ok-stated.stated c.in_ok-stated.ensures.stated c.args.limit c.in-Spent.log
+    (rw c.in-Spent.is at c.in_ok-assignment.ensures.answer)

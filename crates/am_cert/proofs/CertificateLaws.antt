@@ -1,0 +1,294 @@
+-- A text is a certificate's exactly where that certificate is read from it, and else it has a first refusal.
+use Rattle.std.proofs.Common.{◌≡◌, ℕ, ◌^◌, ◌<◌, cond, List, [], ◌∷◌, ◌++◌, bytes_eq, codes, length, Option, Some, None, Result}
+use Rattle.std.proofs.Common.{Ok, Err, ap, subst, ◌∙◌, sym, refl, inl, inr, arith, length-append}
+use Rattle.std.specs.Prelude.{IfErr, IfOk}
+use Rattle.std.proofs.lemmas.List.{append-nil}
+use Rattle.am_problem.specs.Grammar.{problem}
+use Rattle.am_problem.specs.Limits.{IsProblem}
+use Rattle.am_problem.specs.Lines.{Lines}
+use Rattle.am_problem.specs.Problem.{Problem}
+use Rattle.am_problem.specs.Texts.{Draft as ProblemDraft, IfRefused, draft as problem_draft, draft_with, named}
+use Rattle.am_problem.specs.Texts.{settled as settled_problem}
+use Rattle.am_problem.specs.lemmas.KindLaws.{laws_of}
+use Rattle.am_problem.proofs.Laws.{IsLines, IsDraftOf, HasDraft, draft_again, draft_takes, lines_good, lines_of_formed, problem_law}
+use Rattle.am_query.specs.declared.outcome.Outcome.{Outcome}
+use Rattle.am_text.specs.Tokens.{Left, Placed, bad_byte, text_left, tokens_at}
+use Rattle.am_syntax.specs.Exact.{IsExact, Takes, always, words_in}
+use Rattle.am_syntax.specs.Numerals.{is_digits}
+use Rattle.am_syntax.specs.Pieces.{closed, keyed, syntax}
+use Rattle.am_syntax.specs.Readers.{◌>>=◌, Read, Word, done, onward}
+use Rattle.am_syntax.specs.Texts.{Answers, ended, whole}
+use Rattle.am_syntax.specs.declared.refusal.Cause.{Cause}
+use Rattle.am_syntax.specs.declared.refusal.Cause.TheVariants.{Number, Syntax}
+use Rattle.am_syntax.specs.declared.refusal.ReadError.{ReadError}
+use Rattle.am_syntax.specs.declared.refusal.ReadError.TheVariants.{NoMemory, Refused}
+use Rattle.am_syntax.specs.declared.refusal.Refusal.{Refusal}
+use Rattle.am_syntax.proofs.Laws.{Takes-halves, Takes-length, Takes-then, Takes-words, bind_ok, chosen, keyed_law, ok_is}
+use Rattle.am_syntax.proofs.Laws.{same_bytes, token_law}
+use Rattle.am_cert.specs.Certificate.{AreBounded, Certificate, IsCertificate}
+use Rattle.am_cert.specs.Grammar.{Shape, outcome, shape_of, version, version_judge, version_word}
+use Rattle.am_cert.specs.Texts.{Draft, IsSettledCertificate, Reads, all_settled, answered, certificate_of, certificate_words}
+use Rattle.am_cert.specs.Texts.{draft, drafted, settled, settled_with}
+use Rattle.am_cert.specs.declared.version.Version.{Version}
+use Rattle.am_cert.specs.declared.version.Version.TheVariants.{One, Two}
+use Rattle.am_cert.specs.inside.Drafts.{CanFollow}
+use Rattle.am_cert.specs.inside.Shapes.{IsShape}
+use Rattle.am_cert.proofs.AnswerLaws.{answered_law}
+use Rattle.am_cert.proofs.Bounds.{outcome_bounded, tokens_length}
+
+-- ---- the version
+
+version_to : (v : Word) (x : Version) → version_judge v ≡ Ok x → v ≡ version_word x
+version_to v x e = elim (chosen (bytes_eq v (codes "1")) _ _ (Ok x) e) [
+  | inl one ↦
+      let is : One ≡ x = (let f : ◌≡◌ {A = Result Version Cause} (Ok One) (Ok x) = one.1 in cc) in
+      same_bytes v (codes "1") one.0 ∙ ap version_word is
+  | inr other ↦ elim (chosen (bytes_eq v (codes "2")) _ _ (Ok x) other.1) [
+    | inl two ↦
+        let is : Two ≡ x = (let f : ◌≡◌ {A = Result Version Cause} (Ok Two) (Ok x) = two.1 in cc) in
+        same_bytes v (codes "2") two.0 ∙ ap version_word is
+    | inr none ↦
+        absurd (let f : ◌≡◌ {A = Result Version Cause} (Err (cond (is_digits v) Number Syntax)) (Ok x) = none.1 in cc)
+  ]
+]
+
+version_back : (x : Version) → version_judge (version_word x) ≡ Ok x
+version_back One = refl
+version_back Two = refl
+
+version_law : IsExact version always
+unfolding version
+version_law =
+    token_law version_judge version_word (λ _. Unit {0}) (λ v x e. (version_to v x e, tt)) (λ x good. version_back x)
+
+pub heading_law : IsExact (keyed (codes "certificate") version) always
+heading_law = keyed_law syntax (codes "certificate") version_law
+
+-- ---- what a problem says of the rows behind it
+
+lines_shape : (l : Lines) → IsLines l → IsShape (shape_of l)
+lines_shape l is = record {
+  width = is.width.1;
+  inputs = is.inputs.1;
+  fields = (laws_of l.kind).few_fields;
+  turns = is.turns;
+}
+
+problem_shape : (p : Problem) → IsProblem p → IsShape (shape_of (named p))
+problem_shape p is = lines_shape (named p) (lines_of_formed p is.formed)
+
+-- a problem that was read has few fields
+pub draft_shape : (s t : Left) (d : ProblemDraft) → problem_draft s ≡ Ok (d, t) → IsShape (shape_of d.lines)
+draft_shape s t d read =
+    let f = bind_ok (problem.read s) (λ l. done (draft_with s.tokens l)) (d, t) read in
+    let same = ok_is (draft_with s.tokens f.0.0, f.0.1) (d, t) f.2 in
+    subst (λ (q : ProblemDraft × Left). IsShape (shape_of q.0.lines)) same
+    (lines_shape f.0.0 (lines_good f.0.0 (problem_law.takes s f.0.0 f.0.1 f.1).1))
+
+-- ---- the answer
+
+module _ (s t u : Left) (d : ProblemDraft) (o : Outcome) (read : problem_draft s ≡ Ok (d, t))
+    (answer : answered d t ≡ Ok (o, u)) where
+  abbrev taken : Takes t ((closed (codes "end") (keyed (codes "answer") (outcome (shape_of d.lines)))).spell o) u
+      × (outcome (shape_of d.lines)).Good o
+  taken = (answered_law (shape_of d.lines) (draft_shape s t d read)).takes t o u answer
+
+  -- an answer that was read can follow its problem
+  pub answer_follows : CanFollow d o
+  answer_follows = taken.1
+
+  -- its logs aren't too long where the tokens are few
+  pub answer_bounded : length t.tokens < 2 ^ 32 → AreBounded o
+  answer_bounded few =
+      let spelled = (outcome (shape_of d.lines)).spell o in
+      outcome_bounded (shape_of d.lines) o
+      (omega (
+        arith,
+        few,
+        Takes-length t (codes "answer" ∷ (spelled ++ codes "end" ∷ [])) u taken.0,
+        length-append spelled (codes "end" ∷ []),
+      ))
+
+-- ---- certificates that are read are spelled so
+
+record IsSettledTo (v : Version) (o : Outcome) (r : Result Problem Refusal) (c : Certificate) : Type 0 where
+  problem : Problem
+  settles : r ≡ Ok problem
+  is : record { version = v; problem = problem; outcome = o } ≡ c
+
+settled_parts : (v : Version) (o : Outcome) (r : Result Problem Refusal) (c : Certificate) →
+    settled_with v o r ≡ Ok c → IsSettledTo v o r c
+settled_parts v o (Ok p) c e = record { problem = p; settles = refl; is = cc }
+settled_parts v o (Err r) c e = absurd (let f : ◌≡◌ {A = Result Certificate Refusal} (Err r) (Ok c) = e in cc)
+
+-- what was read to a draft
+record IsRead (s t : Left) (d : Draft) : Type 0 where
+  behind_version : Left
+  behind_problem : Left
+  heading : (keyed (codes "certificate") version).read s ≡ Ok (d.version, behind_version)
+  problem : problem_draft behind_version ≡ Ok (d.problem, behind_problem)
+  answer : answered d.problem behind_problem ≡ Ok (d.outcome, t)
+
+read_parts : (s t : Left) (d : Draft) → draft s ≡ Ok (d, t) → IsRead s t d
+unfolding draft
+read_parts s t d e =
+    let f = bind_ok ((keyed (codes "certificate") version).read s) _ (d, t) e in
+    let g = bind_ok (problem_draft f.0.1) _ (d, t) f.2 in
+    let h = bind_ok (answered g.0.0 g.0.1) _ (d, t) g.2 in
+    let made : Draft × Left = (record { version = f.0.0; problem = g.0.0; outcome = h.0.0 }, h.0.1) in
+    subst (λ (q : Draft × Left). IsRead s q.1 q.0) (ok_is made (d, t) h.2)
+    (record {
+      behind_version = f.0.1;
+      behind_problem = g.0.1;
+      heading = f.1;
+      problem = g.1;
+      answer = h.1;
+    })
+
+-- the words of a settled draft's certificate were taken, and the certificate is within all limits where they are few
+pub certificate_takes : (s t : Left) (d : Draft) (c : Certificate) → draft s ≡ Ok (d, t) → settled d ≡ Ok c →
+    length s.tokens < 2 ^ 32 → Takes s (certificate_words c) t × IsCertificate c
+unfolding version
+certificate_takes s t d c read settles few =
+    let r = read_parts s t d read in
+    let to = settled_parts d.version d.outcome (settled_problem d.problem) c settles in
+    let p = to.problem in
+    let heading = heading_law.takes s d.version r.behind_version r.heading in
+    let is = draft_takes r.behind_version r.behind_problem d.problem p r.problem to.settles in
+    let shape = ap shape_of is.lines in
+    let follows = answer_follows r.behind_version r.behind_problem t d.problem d.outcome r.problem r.answer in
+    let answer = (taken r.behind_version r.behind_problem t d.problem d.outcome r.problem r.answer).0 in
+    let behind : Takes r.behind_problem (codes "answer" ∷ ((outcome (shape_of (named p))).spell d.outcome ++ codes "end" ∷ [])) t =
+    subst (λ (k : Shape). Takes r.behind_problem (codes "answer" ∷ ((outcome k).spell d.outcome ++ codes "end" ∷ [])) t) shape answer in
+    let one = Takes-length s _ r.behind_version heading.0 in
+    let two = Takes-length r.behind_version _ r.behind_problem is.taken in
+    subst (λ (k : Certificate). Takes s (certificate_words k) t × IsCertificate k) to.is (
+      Takes-then s (codes "certificate" ∷ version_word d.version ∷ []) r.behind_version _ t heading.0
+          (Takes-then r.behind_version (problem.spell (named p)) r.behind_problem _ t is.taken behind),
+      record {
+        problem = is.limits;
+        outcome = subst (λ (k : Shape). (outcome k).Good d.outcome) shape follows;
+        bounded =
+            answer_bounded r.behind_version r.behind_problem t d.problem d.outcome r.problem r.answer
+            (omega (arith, few, one, two));
+      },
+    )
+
+-- ---- certificates that are spelled are read
+
+-- a draft that settles to a certificate
+pub record HasCertificate (s t : Left) (c : Certificate) : Type 0 where
+  pub found : Draft
+  pub read : draft s ≡ Ok (found, t)
+  pub settles : settled found ≡ Ok c
+
+-- the words of a certificate give a draft that settles to it
+pub certificate_again : (s t : Left) (c : Certificate) → IsCertificate c → Takes s (certificate_words c) t →
+    HasCertificate s t c
+unfolding version draft
+certificate_again s t c is taken =
+    let l = named c.problem in
+    let answer = codes "answer" ∷ ((outcome (shape_of l)).spell c.outcome ++ codes "end" ∷ []) in
+    let one = Takes-halves s (codes "certificate" ∷ version_word c.version ∷ []) (problem.spell l ++ answer) t taken in
+    let two = Takes-halves one.between (problem.spell l) answer t one.second in
+    let has = draft_again one.between two.between c.problem is.problem two.first in
+    let behind : answered has.found two.between ≡ Ok (c.outcome, t) =
+    ap (λ (k : Lines). (closed (codes "end") (keyed (codes "answer") (outcome (shape_of k)))).read two.between) has.lines
+    ∙ (answered_law (shape_of l) (problem_shape c.problem is.problem)).again two.between c.outcome t is.outcome two.second tt in
+    record {
+      found = record { version = c.version; problem = has.found; outcome = c.outcome };
+      read =
+          ap (onward (λ v. problem_draft >>= λ d. answered d >>= λ o. done (record { version = v; problem = d; outcome = o })))
+          (heading_law.again s c.version one.between tt one.first tt)
+          ∙ ap (onward (λ d. answered d >>= λ o. done (record { version = c.version; problem = d; outcome = o }))) has.read
+          ∙ ap (onward (λ o. done (record { version = c.version; problem = has.found; outcome = o }))) behind;
+      settles = ap (settled_with c.version c.outcome) has.settles;
+    }
+
+-- ---- whole texts
+
+record IsFound (text : List ℕ) (c : Certificate) : Type 0 where
+  allowed : bad_byte text ≡ None
+  found : Draft
+  left : Left
+  read : draft (text_left text) ≡ Ok (found, left)
+  ends : left.tokens ≡ []
+  settles : settled found ≡ Ok c
+
+abbrev ended_to : Draft → List Placed → Result Certificate Refusal
+ended_to d tokens = all_settled (ended d tokens)
+
+ended_parts : (d : Draft) (tokens : List Placed) (c : Certificate) → all_settled (ended d tokens) ≡ Ok c →
+    (tokens ≡ []) × (settled d ≡ Ok c)
+ended_parts d [] c e = (refl, e)
+ended_parts d (t ∷ ts) c e = absurd (let f : ◌≡◌ {A = Result Certificate Refusal} (Err _) (Ok c) = e in cc)
+
+found_whole : (text : List ℕ) (c : Certificate) (r : Read Draft) → bad_byte text ≡ None → draft (text_left text) ≡ r →
+    all_settled (whole r) ≡ Ok c → IsFound text c
+found_whole text c (Ok q) allowed read e =
+    let parts = ended_parts q.0 q.1.tokens c e in
+    record { allowed = allowed; found = q.0; left = q.1; read = read; ends = parts.0; settles = parts.1 }
+found_whole text c (Err stop) allowed read e =
+    absurd (let f : ◌≡◌ {A = Result Certificate Refusal} (Err _) (Ok c) = e in cc)
+
+found_in : (text : List ℕ) (c : Certificate) (bad : Option ℕ) → bad_byte text ≡ bad →
+    all_settled (drafted text bad) ≡ Ok c → IsFound text c
+found_in text c (Some place) allowed e =
+    absurd (let f : ◌≡◌ {A = Result Certificate Refusal} (Err _) (Ok c) = e in cc)
+found_in text c None allowed e = found_whole text c (draft (text_left text)) allowed refl e
+
+reads_from : (text : List ℕ) (c : Certificate) → length text < 2 ^ 32 → certificate_of text ≡ Ok c → Reads text c
+reads_from text c short e =
+    let f = found_in text c (bad_byte text) refl e in
+    let took =
+    certificate_takes (text_left text) f.left f.found c f.read f.settles (omega (arith, short, tokens_length 0 text)) in
+    record {
+      allowed = f.allowed;
+      spelled =
+          Takes-words (text_left text) (certificate_words c) f.left took.0
+          ∙ ap (λ (ts : List Placed). certificate_words c ++ words_in ts) f.ends
+          ∙ append-nil (certificate_words c);
+      limits = took.1;
+    }
+
+reads_to : (text : List ℕ) (c : Certificate) → Reads text c → certificate_of text ≡ Ok c
+reads_to text c reads =
+    let end : Left = record { tokens = []; end = length text } in
+    let all : Takes (text_left text) (certificate_words c) end =
+    record {
+      front = tokens_at 0 text;
+      split = sym (append-nil (tokens_at 0 text));
+      spelled = reads.spelled;
+      same_end = refl;
+    } in
+    let has = certificate_again (text_left text) end c reads.limits all in
+    ap (λ (bad : Option ℕ). all_settled (drafted text bad)) reads.allowed
+    ∙ ap (λ (r : Read Draft). all_settled (whole r)) has.read
+    ∙ has.settles
+
+settled_so : (text : List ℕ) → length text < 2 ^ 32 → (answer : Result Certificate Refusal) →
+    certificate_of text ≡ answer → IsSettledCertificate text
+settled_so text short (Ok c) e =
+    inl (c, reads_from text c short e, λ r h. let f : ◌≡◌ {A = Result Certificate Refusal} (Ok c) (Err r) = sym e ∙ h in cc)
+settled_so text short (Err r) e =
+    inr (r, e, λ c reads. let f : ◌≡◌ {A = Result Certificate Refusal} (Err r) (Ok c) = sym e ∙ reads_to text c reads in cc)
+
+pub all_texts_settled : (text : List ℕ) → length text < 2 ^ 32 → IsSettledCertificate text
+all_texts_settled text short = settled_so text short (certificate_of text) refl
+
+-- ---- what an exact answer says
+
+pub found_by : (text : List ℕ) (result : Result Certificate ReadError) → length text < 2 ^ 32 →
+    Answers (λ c. c) result (certificate_of text) → IfOk result (λ c. Reads text c)
+found_by text (Ok c) short h = reads_from text c short h
+found_by text (Err e) short h = tt
+
+pub only_by : (text : List ℕ) (result : Result Certificate ReadError) → Answers (λ c. c) result (certificate_of text) →
+    (c : Certificate) → Reads text c → Answers (λ k. k) result (Ok c)
+only_by text result h c reads = subst (Answers (λ k. k) result) (reads_to text c reads) h
+
+pub first_by : (text : List ℕ) (result : Result Certificate ReadError) → Answers (λ c. c) result (certificate_of text) →
+    IfErr result (λ e. IfRefused e (λ r. certificate_of text ≡ Err r))
+first_by text (Ok c) h = tt
+first_by text (Err (Refused r)) h = h
+first_by text (Err NoMemory) h = tt

@@ -1,0 +1,55 @@
+-- What an outcome that can be written has: a term for each start, and examples of the problem.
+use Rattle.std.proofs.Common.{◌≡◌, List, [], length, ◌∙◌, sym}
+use Rattle.am_bv.specs.declared.term.Term.{Term}
+use Rattle.am_chain.specs.declared.chain.Chain.{Chain}
+use Rattle.am_problem.specs.Limits.{IsProblem}
+use Rattle.am_problem.specs.Problem.{Problem}
+use Rattle.am_problem.specs.Texts.{named}
+use Rattle.am_query.proofs.Laws.{accepted_is_right}
+use Rattle.am_query.specs.AcceptanceLaws.{FitsInto, IsRight}
+use Rattle.am_query.specs.Turns.{AreRows, after_trace}
+use Rattle.am_query.specs.declared.outcome.Outcome.{Outcome}
+use Rattle.am_query.specs.declared.outcome.Outcome.TheVariants.{Absent, Best, Conflicts, Turns}
+use Rattle.am_query.specs.declared.turn.Turn.{Turn}
+use Rattle.am_cert.specs.Certificate.{Certificate, IsCertificate, folds}
+use Rattle.am_cert.specs.Checking.{IsAcceptable}
+use Rattle.am_cert.specs.Grammar.{best, none, outcome, shape_of}
+use Rattle.am_cert.specs.inside.Verdicts.{AreCounted, AreStoredAfter}
+use Rattle.am_cert.proofs.Stored.{stored_after}
+
+module _ (p : Problem) (is : IsProblem p) where
+  abbrev pub CanBeWritten : Outcome → Type 0
+  CanBeWritten o = (outcome (shape_of (named p))).Good o
+
+  -- an answer that is best has a term for each start
+  pub best_counted : (t : List Term) (trace : List Turn) (sound_log best_log : List Chain) →
+      CanBeWritten (Best t trace sound_log best_log) → AreCounted p t
+  unfolding outcome best
+  best_counted t trace sound_log best_log good = good.0.0 ∙ sym is.formed.start_per_field
+
+  pub best_stored : (t : List Term) (trace : List Turn) (sound_log best_log : List Chain) →
+      CanBeWritten (Best t trace sound_log best_log) → AreStoredAfter p trace
+  unfolding outcome best
+  best_stored t trace sound_log best_log good = stored_after p trace good.1.0
+
+  pub absent_stored : (trace : List Turn) (log : List Chain) → CanBeWritten (Absent trace log) → AreStoredAfter p trace
+  unfolding outcome none
+  absent_stored trace log good = stored_after p trace good.0
+
+  fits : (o : Outcome) → CanBeWritten o → FitsInto p o
+  fits (Best t trace sound_log best_log) good =
+      let stored = best_stored t trace sound_log best_log good in
+      let rows : AreRows p (after_trace trace) =
+      record { positives = stored.positives; negatives = stored.negatives } in
+      (best_counted t trace sound_log best_log good, rows)
+  fits (Absent trace log) good =
+      let stored = absent_stored trace log good in
+      record { positives = stored.positives; negatives = stored.negatives }
+  fits (Turns trace) good = tt
+  fits (Conflicts trace asked log) good = tt
+
+-- an accepted certificate's outcome is right
+pub acceptable_is_right : (c : Certificate) → IsCertificate c → IsAcceptable c → IsRight c.problem c.outcome
+acceptable_is_right c is accepted =
+    accepted_is_right (folds c.version) c.problem is.problem.formed c.outcome
+    (fits c.problem is.problem c.outcome is.outcome) accepted

@@ -1,0 +1,40 @@
+use Rattle.std.proofs.Common.{sym, ◌∙◌, subst}
+use Rattle.am_query.specs.Acceptance.{acceptance}
+use Rattle.am_query.specs.declared.outcome.Outcome.{Outcome}
+use Rattle.am_cert.specs.Certificate.{folds}
+use Rattle.am_cert.specs.inside.Verdicts.{IsVerdictOf}
+use Rattle.am_cert.proofs.FittedOutcomes.{CanBeWritten, absent_stored, best_counted, best_stored}
+use Rattle.am_cert.proofs.checking.verdict.Goals as goal
+
+pub best-requires-clause-counted : goal.best-requires-clause-counted
+best-requires-clause-counted c =
+    let is = c.keeps_limits.ensures in
+    let best = c.in-Best in
+    let good = subst (CanBeWritten c.args.c.now.problem is.problem) (sym c.outcome.ensures ∙ best.is) is.outcome in
+    best_counted c.args.c.now.problem is.problem best.term best.trace best.sound_log best.best_log good
+
+pub best-requires-clause-stored : goal.best-requires-clause-stored
+best-requires-clause-stored c =
+    let is = c.keeps_limits.ensures in
+    let best = c.in-Best in
+    let good = subst (CanBeWritten c.args.c.now.problem is.problem) (sym c.outcome.ensures ∙ best.is) is.outcome in
+    best_stored c.args.c.now.problem is.problem best.term best.trace best.sound_log best.best_log good
+
+pub absent-requires-clause-stored : goal.absent-requires-clause-stored
+absent-requires-clause-stored c =
+    let is = c.keeps_limits.ensures in
+    let absent = c.in-Absent in
+    let good = subst (CanBeWritten c.args.c.now.problem is.problem) (sym c.outcome.ensures ∙ absent.is) is.outcome in
+    absent_stored c.args.c.now.problem is.problem absent.trace absent.log good
+
+pub returns-in-Best : goal.returns-in-Best
+returns-in-Best c =
+    let d = c.args.c.now in
+    subst (λ (o : Outcome). IsVerdictOf (acceptance (folds d.version) d.problem o) c.best.result)
+    (sym (sym c.outcome.ensures ∙ c.in-Best.is)) c.best.ensures
+
+pub returns-in-Absent : goal.returns-in-Absent
+returns-in-Absent c =
+    let d = c.args.c.now in
+    subst (λ (o : Outcome). IsVerdictOf (acceptance (folds d.version) d.problem o) c.absent.result)
+    (sym (sym c.outcome.ensures ∙ c.in-Absent.is)) c.absent.ensures

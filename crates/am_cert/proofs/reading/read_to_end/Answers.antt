@@ -1,0 +1,32 @@
+use Rattle.std.proofs.Common.{◌<◌, ◌≤◌, ◌^◌, [], ap, arith, length, subst, sym, ◌∙◌}
+use Rattle.am_text.specs.Tokens.{Left, bad_byte}
+use Rattle.am_syntax.specs.Pieces.{Piece}
+use Rattle.am_syntax.specs.Readers.{Makes}
+use Rattle.am_syntax.specs.Texts.{Answers, opened, text_value}
+use Rattle.am_syntax.proofs.Laws.{text_closed}
+use Rattle.am_cert.specs.StoredDraft.{seen_draft}
+use Rattle.am_cert.specs.Texts.{Draft, draft, drafted}
+use Rattle.am_cert.proofs.Bounds.{tokens_length}
+use Rattle.am_cert.proofs.reading.read_to_end.Goals as goal
+
+-- a draft as a piece, of which reading alone is used
+drafts : Piece Draft
+drafts = record { spell = λ d. []; Good = λ d. Unit {0}; read = draft }
+
+pub take_certificate-read-requires : goal.take_certificate-read-requires
+take_certificate-read-requires c =
+    subst (λ (s : Left). length s.tokens < 2 ^ 32) (sym c.requires.whole)
+    (let few = tokens_length 0 c.args.text.now in omega (arith, few, c.requires.short))
+
+pub returns : goal.returns
+unfolding text_value drafts
+returns c =
+    let text = c.args.text.now in
+    let left = c.take_certificate-read.new.text in
+    let read = c.take_certificate-read.result in
+    let closed =
+    text_closed drafts seen_draft text left read c.requires.allowed
+    (subst (λ s. Makes seen_draft read s left draft) c.requires.whole c.take_certificate-read.ensures) in
+    let alike = ap (opened drafts text) c.requires.allowed ∙ sym (ap (drafted text) c.requires.allowed) in
+    subst (λ r. Answers seen_draft r (drafted text (bad_byte text))) (sym c.close.ensures)
+    (subst (Answers seen_draft _) alike closed)

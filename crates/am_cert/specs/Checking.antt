@@ -1,0 +1,48 @@
+-- When a certificate is accepted, and what its acceptance says.
+use Rattle.std.specs.Prelude.{◌≡◌, ℕ, ◌≤◌, ◌<◌, List, length, Result, Ok, Err, ◌⊎◌}
+use Rattle.am_query.specs.Acceptance.{IsAccepted, IsFault}
+use Rattle.am_query.specs.AcceptanceLaws.{IsRight}
+use Rattle.am_query.specs.declared.fault.Fault.{Fault}
+use Rattle.am_syntax.specs.declared.refusal.Refusal.{Refusal}
+use Rattle.am_syntax.specs.declared.refusal.Refusal.TheVariants.{Long}
+use Rattle.am_cert.specs.Certificate.{Certificate, folds}
+use Rattle.am_cert.specs.Texts.{Reads, certificate_of}
+use Rattle.am_cert.specs.declared.checking.CheckFail.{CheckFail}
+use Rattle.am_cert.specs.declared.checking.CheckFail.TheVariants.{NoMemory, Rejected}
+use Rattle.am_cert.specs.declared.feed.FeedEnd.{FeedEnd}
+use Rattle.am_cert.specs.declared.feed.FeedEnd.TheVariants as feed
+use Rattle.am_cert.specs.declared.feed.FeedEnd.TheVariants.{Refused}
+use Rattle.am_cert.specs.declared.limits.TheConstants.{MOST_BYTES}
+
+-- the outcome is accepted over the formulas of the certificate's version
+abbrev pub IsAcceptable : Certificate → Type 0
+IsAcceptable c = IsAccepted (folds c.version) c.problem c.outcome
+
+-- the first fault of the outcome over these formulas
+abbrev pub HasFault : Certificate → Fault → Type 0
+HasFault c f = IsFault (folds c.version) c.problem c.outcome f
+
+-- a failure of a check is the certificate's first fault, or want of memory
+abbrev pub IsFailureOf : Certificate → CheckFail → Type 0
+IsFailureOf c (Rejected f) = HasFault c f
+IsFailureOf c NoMemory = Unit {0}
+
+-- ---- whole texts
+
+-- the text is longer than any input may be, or is no certificate's, and this is its first refusal
+abbrev pub IsRefusalOf : List ℕ → Refusal → Type 0
+IsRefusalOf text r =
+    ((MOST_BYTES < length text) × (r ≡ Long)) ⊎ ((length text ≤ MOST_BYTES) × (certificate_of text ≡ Err r))
+
+-- a text that isn't too long is this certificate's
+pub record IsInputOf (text : List ℕ) (c : Certificate) : Type 0 where
+  pub short : length text ≤ MOST_BYTES
+  pub reads : Reads text c
+
+-- the text is an accepted certificate's, whose outcome is right; or it is refused; or its certificate has this first fault
+abbrev pub IsVerdict : List ℕ → Result (Unit {0}) FeedEnd → Type 0
+IsVerdict text (Ok u) =
+    (c : Certificate) × IsInputOf text c × IsAcceptable c × IsRight c.problem c.outcome
+IsVerdict text (Err (Refused r)) = IsRefusalOf text r
+IsVerdict text (Err (feed.Rejected f)) = (c : Certificate) × IsInputOf text c × HasFault c f
+IsVerdict text (Err feed.NoMemory) = Unit {0}

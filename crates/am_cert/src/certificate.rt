@@ -1,0 +1,77 @@
+//! Certificates.
+
+ghost use Rattle.std.specs.Prelude.{◌≡◌};
+ghost use Rattle.am_cert.specs.Certificate.{IsCertificate};
+ghost use Rattle.am_cert.specs.Printing.{IsWritable};
+
+use crate::version::Version;
+use am_problem::Problem;
+use am_query::Outcome;
+use std::marker::Model;
+
+/// A problem, and how its synthesis ended. Contracts see the parts; each certificate can be written, has fewer than
+/// 2^31 chains in each log, and fewer than 2^31 steps in each chain.
+#[derive(Drop)]
+pub struct Certificate {
+    pub(crate) version: Version,
+    pub(crate) problem: Problem,
+    pub(crate) outcome: Outcome,
+}
+
+impl Model for Certificate {
+    ghost use Rattle.std.specs.Coded.{codes};
+    ghost use Rattle.am_bv.specs.contracts.term.Term as term;
+    ghost use Rattle.am_tree.specs.contracts.grammar.Production as production;
+    ghost use Rattle.am_cert.specs.Certificate.{Certificate as Data, IsCertificate};
+
+    ghost Value = { Data };
+
+    ghost coded = { Prim.hlevel (codes, term.the_row.coded, production.the_row.coded) };
+
+    ghost view = { λ c. record { version = c.version; problem = c.problem; outcome = c.outcome } };
+
+    ghost invariant = { λ c. IsCertificate (record { version = c.version; problem = c.problem; outcome = c.outcome }) };
+}
+
+impl Certificate {
+    /// The certificate of a problem with an outcome of its synthesis.
+    pub fn new(version: Version, problem: Problem, outcome: Outcome) -> Certificate
+        requires { IsWritable problem outcome }
+        ensures { result ≡ record { version = version; problem = problem; outcome = outcome } }
+    {
+        problem.keeps_limits();
+        Certificate {
+            version,
+            problem,
+            outcome,
+        }
+    }
+
+    /// Each certificate can be written, and keeps the bounds of its logs.
+    pub fn keeps_limits(&self)
+        ensures { IsCertificate self.now }
+    {
+        let _ = &self.version;
+    }
+
+    /// In which form its formulas are.
+    pub fn version(&self) -> Version
+        ensures { result ≡ self.now.version }
+    {
+        self.version
+    }
+
+    /// Its problem.
+    pub fn problem(&self) -> &Problem
+        ensures { result.now ≡ self.now.problem }
+    {
+        &self.problem
+    }
+
+    /// How the synthesis ended.
+    pub fn outcome(&self) -> &Outcome
+        ensures { result.now ≡ self.now.outcome }
+    {
+        &self.outcome
+    }
+}

@@ -1,0 +1,136 @@
+//! The whole text of a certificate.
+
+ghost use Rattle.std.specs.Prelude.{◌≡◌, ◌<◌, ◌^◌, ℕ, List, Err, IfErr, IfOk, None, Ok, length};
+ghost use Rattle.am_problem.specs.StoredDraft.{seen_draft as seen_problem};
+ghost use Rattle.am_problem.specs.Texts.{IfRefused};
+ghost use Rattle.am_text.specs.Tokens.{bad_byte, text_left};
+ghost use Rattle.am_syntax.specs.Readers.{Makes};
+ghost use Rattle.am_syntax.specs.Texts.{Answers, MakesAt};
+ghost use Rattle.am_cert.specs.Certificate.{Certificate as Data};
+ghost use Rattle.am_cert.specs.Grammar.{shape_of};
+ghost use Rattle.am_cert.specs.StoredDraft.{seen_draft};
+ghost use Rattle.am_cert.specs.inside.Shapes.{IsShape};
+ghost use Rattle.am_cert.specs.Texts.{IsSettledCertificate, Reads, answered, certificate_of, draft, draft_of};
+
+use crate::answers::read_outcome;
+use crate::certificate::Certificate;
+use crate::draft::CertificateDraft;
+use crate::heading::read_version;
+use crate::shape::Shape;
+use am_domain::Domain;
+use am_problem::{Draft, take_problem};
+use am_query::Outcome;
+use am_syntax::{Failure, ReadError, close, open, placed, take_key};
+use am_text::Cursor;
+use std::alloc::Global;
+
+/// `answer`, how the synthesis of the problem ended, and `end`.
+fn read_answer(
+    alloc: Global,
+    text: &mut Cursor<'_>,
+    problem: &Draft<'_>,
+) -> Result<Outcome, Failure>
+    requires { IsShape (shape_of (seen_problem problem.now).lines) }
+    ensures { Makes (λ o. o) result text.old text.new (answered (seen_problem problem.now)) }
+{
+    let shape = Shape {
+        width: problem.width(),
+        inputs: problem.inputs(),
+        fields: problem.kind().fields(),
+        turns: problem.turns(),
+    };
+    take_key(text, b"answer")?;
+    let outcome = read_outcome(alloc, text, &shape)?;
+    take_key(text, b"end")?;
+    Ok(outcome)
+}
+
+/// A certificate up to its `end`.
+#[tactic(auto, unfolding(crate::specs::Texts::draft))]
+fn take_certificate<'a>(
+    alloc: Global,
+    text: &mut Cursor<'a>,
+) -> Result<CertificateDraft<'a>, Failure>
+    requires { length text.old.tokens < 2 ^ 32 }
+    ensures { Makes seen_draft result text.old text.new draft }
+{
+    let version = read_version(text)?;
+    let problem = take_problem(alloc, text)?;
+    let outcome = read_answer(alloc, text, &problem)?;
+    Ok(CertificateDraft {
+        version,
+        problem,
+        outcome,
+    })
+}
+
+/// Reads a certificate up to its `end`, in the middle of a text of fewer than 2^32 tokens.
+///
+/// # Errors
+///
+/// `Refused`: the first token that no certificate has here. The cursor stands at it. `NoMemory`: the cursor stands at
+/// some token that the call had reached.
+pub fn certificate_at<'a>(
+    alloc: Global,
+    c: &mut Cursor<'a>,
+) -> Result<CertificateDraft<'a>, ReadError>
+    requires { length c.old.tokens < 2 ^ 32 }
+    ensures { MakesAt seen_draft result c.old c.new draft }
+{
+    let read = take_certificate(alloc, c);
+    placed(read, &*c)
+}
+
+/// Reads all of a text from its beginning.
+fn read_to_end<'a>(
+    alloc: Global,
+    text: &'a [u8],
+    mut cursor: Cursor<'a>,
+) -> Result<CertificateDraft<'a>, ReadError>
+    requires short { length text.now < 2 ^ 32 }
+    requires allowed { bad_byte text.now ≡ None }
+    requires whole { cursor ≡ text_left text.now }
+    ensures { Answers seen_draft result (draft_of text.now) }
+{
+    let read = take_certificate(alloc, &mut cursor);
+    close(read, &cursor)
+}
+
+/// Reads all of a text, before the names of its problem are numbered.
+fn read_text<'a>(alloc: Global, text: &'a [u8]) -> Result<CertificateDraft<'a>, ReadError>
+    requires { length text.now < 2 ^ 32 }
+    ensures { Answers seen_draft result (draft_of text.now) }
+{
+    let cursor = open(text)?;
+    read_to_end(alloc, text, cursor)
+}
+
+/// Reads all of a text.
+fn read_all(alloc: Global, text: &[u8]) -> Result<Certificate, ReadError>
+    requires { length text.now < 2 ^ 32 }
+    ensures { Answers (λ c. c) result (certificate_of text.now) }
+{
+    read_text(alloc, text)?.settle(alloc)
+}
+
+/// Reads the certificate of a text.
+///
+/// # Errors
+///
+/// `Refused`: the text is no certificate's, with the first refusal.
+pub fn read_certificate(alloc: Global, text: &[u8]) -> Result<Certificate, ReadError>
+    requires { length text.now < 2 ^ 32 }
+    // What is read is the text's certificate.
+    ensures found { IfOk result (λ c. Reads text.now c) }
+    // What is some certificate's text is read, unless memory runs out.
+    ensures only { (c : Data) → Reads text.now c → Answers (λ k. k) result (Ok c) }
+    // Where nothing is read, the refusal is the first.
+    ensures first { IfErr result (λ e. IfRefused e (λ r. certificate_of text.now ≡ Err r)) }
+{
+    read_all(alloc, text)
+}
+
+/// Each text of fewer than 2^32 bytes is a certificate's or has a first refusal, and not both.
+pub fn certificate_texts_are_settled()
+    ensures { (text : List ℕ) → length text < 2 ^ 32 → IsSettledCertificate text }
+{}

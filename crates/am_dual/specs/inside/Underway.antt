@@ -1,0 +1,42 @@
+-- A synthesis between two turns, and what one turn leads to.
+use Rattle.std.specs.Prelude.{ℕ, ◌≡◌, ◌+◌, ◌-◌, ◌^◌, ◌≤◌, List, [], length}
+use Rattle.am_chain.specs.declared.chain.Chain.{Chain}
+use Rattle.am_domain.specs.Examples.{NoneSatisfies}
+use Rattle.am_problem.specs.Examples.{positives_of}
+use Rattle.am_problem.specs.Problem.{Problem, question_of}
+use Rattle.am_query.specs.Answers.{IsRefuted}
+use Rattle.am_query.specs.Turns.{IsCandidate, after_trace}
+use Rattle.am_query.specs.declared.outcome.Outcome.{Outcome}
+use Rattle.am_query.specs.declared.query.Query.TheVariants.{Fit}
+use Rattle.am_query.specs.declared.turn.Turn.{Turn}
+use Rattle.am_dual.specs.Synthesis.{AreConflictsSpent, IsSynthesis, IsTraceWithin, most_inputs}
+use Rattle.am_dual.specs.declared.turns.Next.{Next}
+use Rattle.am_dual.specs.declared.turns.Next.TheVariants.{End, Turn as NextTurn}
+use Rattle.am_dual.specs.declared.turns.Synthesis.{Synthesis}
+
+-- a valid trace of at most so many turns, the examples after it, and a transformer that satisfies them
+pub record IsUnderway (p : Problem) (turns : ℕ) (s : Synthesis) : Type 0 where
+  pub within : IsTraceWithin p turns s.trace
+  pub state : s.state ≡ after_trace s.trace
+  pub candidate : IsCandidate p s.state s.term
+
+-- a valid trace of at most so many turns, after which no transformer satisfies the positive examples, as the log shows
+pub record NothingSuits (p : Problem) (turns : ℕ) (trace : List Turn) (log : List Chain) : Type 0 where
+  pub within : IsTraceWithin p turns trace
+  pub nothing : NoneSatisfies (question_of p) (positives_of p (after_trace trace).positives) []
+  pub refuted : IsRefuted p (Fit (after_trace trace).positives []) p.conflicts log
+
+-- a right outcome, where the derived clauses aren't spent if enough are allowed
+pub record IsEnd (p : Problem) (o : Outcome) : Type 0 where
+  pub right : IsSynthesis p o
+  pub enough : 3 ^ most_inputs p ≤ p.conflicts → ¬ AreConflictsSpent o
+
+-- after so many turns there may be another one, or this is the end
+abbrev pub IsNext : Problem → ℕ → Next → Type 0
+IsNext p made (NextTurn s) = IsUnderway p p.turns s × (length s.trace ≡ made)
+IsNext p made (End o) = IsEnd p o
+
+-- how many turns there may still be, one more than may be made among them
+abbrev pub turns_left : Problem → Next → ℕ
+turns_left p (NextTurn s) = p.turns + 1 - length s.trace
+turns_left p (End o) = 0

@@ -1,0 +1,10 @@
+pub mod EdgeLaws
+pub mod FlowLaws
+pub mod Reaching
+pub mod FitLaws
+pub mod RowLaws
+pub mod JoinLaws
+pub mod RankLaws
+pub mod RoundLaws
+pub mod RunLaws
+pub mod TableTexts

@@ -1,0 +1,105 @@
+-- The grammar of a flow's text, line by line.
+use Rattle.std.specs.Prelude.{ℕ, ◌-◌, ◌^◌, Bool, false, nat_lt, List, [], ◌∷◌, length, codes, ◌⊎◌}
+use Rattle.std.proofs.Common.{inl, inr}
+use Rattle.am_problem.specs.Grammar.{domain}
+use Rattle.am_problem.specs.declared.kind.Kind.{Kind}
+use Rattle.am_syntax.specs.Numerals.{is_digits}
+use Rattle.am_syntax.specs.Pieces.{◌▹◌, Piece, below, choice, closed, key, keyed, next_is, number, one_more, repeat, seen_as}
+use Rattle.am_syntax.specs.Readers.{Words}
+use Rattle.am_flow.specs.Flows.{Flow}
+use Rattle.am_flow.specs.declared.flow.Action.{Action}
+use Rattle.am_flow.specs.declared.flow.Action.TheVariants.{Any, Apply, Copy, Set, Skip}
+use Rattle.am_flow.specs.declared.flow.Edge.{Edge}
+use Rattle.am_flow.specs.declared.limits.TheConstants.{MOST_EDGES, MOST_NODES, MOST_VARIABLES}
+
+-- ---- actions
+
+-- what the lines before say of the edges: the width, and how many operations, variables and nodes there are
+pub record Shape : Type 0 where
+  pub width : ℕ
+  pub operations : ℕ
+  pub variables : ℕ
+  pub nodes : ℕ
+
+abbrev pub variable : Shape → Piece ℕ
+variable s = below 0 s.variables
+
+abbrev pub is_number_next : Words → Bool
+is_number_next [] = false
+is_number_next (v ∷ vs) = is_digits v
+
+-- apply I A B { B }
+abbrev pub application : Shape → Piece (ℕ × (ℕ × (ℕ × List ℕ)))
+application s =
+    below 0 s.operations ▹ λ _. variable s ▹ λ _. variable s ▹ λ _. repeat is_number_next (λ _. variable s)
+
+abbrev pub ActionParts : Type 0
+ActionParts = Unit {0} ⊎ (ℕ ⊎ ((ℕ × ℕ) ⊎ ((ℕ × ℕ) ⊎ (ℕ × (ℕ × (ℕ × List ℕ))))))
+
+abbrev pub action_of : ActionParts → Action
+action_of (inl u) = Skip
+action_of (inr (inl a)) = Any a
+action_of (inr (inr (inl (a, c)))) = Set a c
+action_of (inr (inr (inr (inl (a, b))))) = Copy a b
+action_of (inr (inr (inr (inr (i, (a, (b, more))))))) = Apply i a (b ∷ more)
+
+-- an application to no variable is that to one that isn't there
+abbrev pub action_parts : Shape → Action → ActionParts
+action_parts s Skip = inl tt
+action_parts s (Any a) = inr (inl a)
+action_parts s (Set a c) = inr (inr (inl (a, c)))
+action_parts s (Copy a b) = inr (inr (inr (inl (a, b))))
+action_parts s (Apply i a []) = inr (inr (inr (inr (i, (a, (s.variables, []))))))
+action_parts s (Apply i a (b ∷ more)) = inr (inr (inr (inr (i, (a, (b, more))))))
+
+-- skip, any A, set A C, copy A B, or apply I A B { B }
+unfoldable pub action : Shape → Piece Action
+action s = seen_as action_of (action_parts s) (
+    choice (next_is (codes "skip")) (key (codes "skip")) (
+    choice (next_is (codes "any")) (keyed (codes "any") (variable s)) (
+    choice (next_is (codes "set")) (keyed (codes "set") (variable s ▹ λ _. number 0 (2 ^ s.width - 1))) (
+    choice (next_is (codes "copy")) (keyed (codes "copy") (variable s ▹ λ _. variable s))
+    (keyed (codes "apply") (application s))))))
+
+-- ---- edges
+
+abbrev pub edge_of : ℕ × (ℕ × Action) → Edge
+edge_of (from, (to, action)) = record { from = from; to = to; action = action }
+
+abbrev pub edge_parts : Edge → ℕ × (ℕ × Action)
+edge_parts e = (e.from, (e.to, e.action))
+
+-- edge FROM TO ACTION
+unfoldable pub edge_line : Shape → Piece Edge
+edge_line s =
+    seen_as edge_of edge_parts (keyed (codes "edge") (below 0 s.nodes ▹ λ _. below 0 s.nodes ▹ λ _. action s))
+
+-- an edge behind others, of which there may be one more
+unfoldable pub edge : Shape → List Edge → Piece Edge
+edge s seen = one_more (nat_lt (length seen) MOST_EDGES) (edge_line s)
+
+unfoldable pub edges : Shape → Piece (List Edge)
+edges s = repeat (next_is (codes "edge")) (edge s)
+
+-- ---- the whole
+
+abbrev pub FlowParts : Type 0
+FlowParts = ℕ × (ℕ × (Kind × (ℕ × (ℕ × List Edge))))
+
+abbrev pub flow_of : FlowParts → Flow
+flow_of (_, (w, (kind, (v, (m, edges))))) =
+    record { width = w; kind = kind; variables = v; nodes = m; edges = edges }
+
+abbrev pub flow_parts : Flow → FlowParts
+flow_parts f = (1, (f.width, (f.kind, (f.variables, (f.nodes, f.edges)))))
+
+-- a flow over so many operations, up to its end
+unfoldable pub flow : ℕ → Piece Flow
+flow operations = seen_as flow_of flow_parts (
+    keyed (codes "flow") (number 1 1) ▹ λ _.
+    keyed (codes "width") (number 2 8) ▹ λ w.
+    keyed (codes "domain") domain ▹ λ _.
+    keyed (codes "variables") (number 1 MOST_VARIABLES) ▹ λ v.
+    keyed (codes "nodes") (number 1 MOST_NODES) ▹ λ m.
+    closed (codes "end")
+    (edges (record { width = w; operations = operations; variables = v; nodes = m })))

@@ -1,0 +1,5 @@
+pub mod Shapes
+pub mod Changes
+pub mod Rows
+pub mod Steps
+pub mod Ranks

@@ -1,0 +1,20 @@
+-- Which rows, entries and states an analysis has.
+use Rattle.std.specs.Prelude.{◌≡◌, All, None, Some, length}
+use Rattle.am_domain.specs.Meaning.{IsAbstract}
+use Rattle.am_problem.specs.Kinds.{meaning_of}
+use Rattle.am_flow.specs.Flows.{Flow}
+use Rattle.am_flow.specs.States.{Entry, Row, State}
+
+-- an abstract value for each variable
+pub record IsRow (f : Flow) (row : Row) : Type 0 where
+  pub counted : length row ≡ f.variables
+  pub values : All (IsAbstract (meaning_of f.kind) f.width) row
+
+abbrev pub IsEntry : Flow → Entry → Type 0
+IsEntry f None = Unit {0}
+IsEntry f (Some row) = IsRow f row
+
+-- an entry for each node
+pub record IsState (f : Flow) (state : State) : Type 0 where
+  pub counted : length state ≡ f.nodes
+  pub entries : All (IsEntry f) state

@@ -1,0 +1,27 @@
+-- Which steps can be taken.
+use Rattle.std.specs.Prelude.{◌≡◌, ℕ, ◌<◌, All, List, Some, length, slice_get}
+use Rattle.am_problem.specs.Examples.{IsTransformer}
+use Rattle.am_problem.specs.Limits.{IsProblem}
+use Rattle.am_flow.specs.Flows.{AppliesTo, Flow, IsAction, Operation}
+use Rattle.am_flow.specs.declared.flow.Action.{Action}
+use Rattle.am_flow.specs.declared.flow.Edge.{Edge}
+
+-- an operation over the flow's words and domain, with as many inputs as these variables
+pub record CanApply (f : Flow) (o : Operation) (from : List ℕ) : Type 0 where
+  pub problem : IsProblem o.problem
+  pub transformer : IsTransformer o.problem o.terms
+  pub width : o.problem.width ≡ f.width
+  pub kind : o.problem.kind ≡ f.kind
+  pub counted : length from ≡ o.problem.inputs
+  pub places : All (λ b. b < f.variables) from
+
+-- an action of the flow, which applies an operation to as many variables as it has inputs
+pub record CanAct (f : Flow) (operations : List Operation) (action : Action) : Type 0 where
+  pub named : IsAction f (length operations) action
+  pub applies : (i : ℕ) (o : Operation) → slice_get operations i ≡ Some o → AppliesTo i o.problem.inputs action
+
+-- an edge between nodes of the flow, with such an action
+pub record CanFollow (f : Flow) (operations : List Operation) (e : Edge) : Type 0 where
+  pub from : e.from < f.nodes
+  pub to : e.to < f.nodes
+  pub acts : CanAct f operations e.action

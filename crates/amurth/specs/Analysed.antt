@@ -1,0 +1,153 @@
+-- What `analyse` reads, certificates and then a flow, and what it writes: the flow's table.
+use Rattle.std.specs.Prelude.{◌≡◌, ℕ, ◌≤◌, ◌⊎◌, Bool, false, true, nat_lt, List, [], ◌∷◌, ◌++◌, All, decimal, codes, length, map, take}
+use Rattle.std.specs.Prelude.{Option, None, Some, Result, Ok, Err, slice_get, if◌then◌else◌}
+use Rattle.am_text.specs.Tokens.{bad_byte, text_left}
+use Rattle.am_bv.specs.declared.term.Term.{Term}
+use Rattle.am_cert.specs.Certificate.{Certificate}
+use Rattle.am_cert.specs.Checking.{HasFault, IsAcceptable}
+use Rattle.am_cert.specs.Texts.{Draft, draft, settled}
+use Rattle.am_cert.specs.declared.limits.TheConstants.{MOST_BYTES}
+use Rattle.am_flow.specs.Flows.{AllFit, Flow, IsFirstMisfit, Operation}
+use Rattle.am_flow.specs.declared.signature.Signature.{Signature}
+use Rattle.am_flow.specs.Grammar.{flow}
+use Rattle.am_flow.specs.Runs.{CoversRuns}
+use Rattle.am_flow.specs.States.{IsTable, State}
+use Rattle.am_flow.specs.Texts.{table_text}
+use Rattle.am_query.specs.declared.fault.Fault.{Fault}
+use Rattle.am_query.specs.declared.outcome.Outcome.{Outcome}
+use Rattle.am_query.specs.declared.outcome.Outcome.TheVariants.{Absent, Best, Conflicts, Turns}
+use Rattle.am_syntax.specs.Pieces.{next_is, repeat_from}
+use Rattle.am_syntax.specs.Readers.{◌>>=◌, Reader, done, judged}
+use Rattle.am_syntax.specs.Texts.{whole}
+use Rattle.am_syntax.specs.declared.refusal.Cause.TheVariants.{Count}
+use Rattle.am_syntax.specs.declared.refusal.Refusal.{Refusal}
+use Rattle.am_syntax.specs.declared.refusal.Refusal.TheVariants.{BadByte, Mismatch}
+use Rattle.amurth.specs.Lines.{fault_line, refusal_line}
+use Rattle.amurth.specs.Synthesised.{IsRefusalBy, IsRefusedBy}
+use Rattle.amurth.specs.declared.limits.TheConstants.{MOST_CERTIFICATES}
+use Rattle.amurth.specs.declared.status.Status.{Status}
+use Rattle.amurth.specs.declared.status.Status.TheVariants.{Done, Refused, Rejected}
+
+-- ---- the input
+
+-- certificates, and a flow over their operations
+pub record Analysis : Type 0 where
+  pub certificates : List Certificate
+  pub flow : Flow
+
+-- a certificate behind others, of so many at most
+abbrev pub certificate_behind : List Draft → Reader Draft
+certificate_behind seen = λ s. if nat_lt (length seen) MOST_CERTIFICATES then draft s else judged (λ _. Err Count) s
+
+-- certificates, and then a flow
+abbrev pub drafts : Reader (List Draft × Flow)
+drafts =
+    repeat_from (next_is (codes "certificate")) certificate_behind [] >>= λ cs.
+    (flow (length cs)).read >>= λ f.
+    done (cs, f)
+
+abbrev pub drafted : List ℕ → Option ℕ → Result (List Draft × Flow) Refusal
+drafted text (Some place) = Err (BadByte place)
+drafted text None = whole (drafts (text_left text))
+
+-- the drafts of a text, or the first refusal of its bytes and tokens
+abbrev pub drafts_of : List ℕ → Result (List Draft × Flow) Refusal
+drafts_of text = drafted text (bad_byte text)
+
+abbrev pub behind : Result Certificate Refusal → Result (List Certificate) Refusal → Result (List Certificate) Refusal
+behind (Ok c) (Ok cs) = Ok (c ∷ cs)
+behind (Ok c) (Err r) = Err r
+behind (Err r) rest = Err r
+
+-- the certificates of the drafts, or the first refusal of their problems
+abbrev pub all_settled : List Draft → Result (List Certificate) Refusal
+all_settled [] = Ok []
+all_settled (d ∷ ds) = behind (settled d) (all_settled ds)
+
+abbrev pub settled_with : Flow → Result (List Certificate) Refusal → Result Analysis Refusal
+settled_with f (Ok cs) = Ok (record { certificates = cs; flow = f })
+settled_with f (Err r) = Err r
+
+abbrev pub analysed : Result (List Draft × Flow) Refusal → Result Analysis Refusal
+analysed (Ok p) = settled_with p.1 (all_settled p.0)
+analysed (Err r) = Err r
+
+-- the certificates and the flow of a text, or its first refusal
+abbrev pub analysis_of : List ℕ → Result Analysis Refusal
+analysis_of text = analysed (drafts_of text)
+
+-- ---- operations
+
+abbrev pub is_best : Outcome → Bool
+is_best (Best t trace sound_log best_log) = true
+is_best (Absent trace log) = false
+is_best (Turns trace) = false
+is_best (Conflicts trace asked log) = false
+
+-- what a certificate has a transformer for
+abbrev pub signature : Certificate → Signature
+signature c = record {
+  width = c.problem.width;
+  inputs = c.problem.inputs;
+  kind = c.problem.kind;
+  best = is_best c.outcome;
+}
+
+abbrev pub best_terms : Outcome → List Term
+best_terms (Best t trace sound_log best_log) = t
+best_terms (Absent trace log) = []
+best_terms (Turns trace) = []
+best_terms (Conflicts trace asked log) = []
+
+-- a certificate's problem and its best transformer
+abbrev pub operation : Certificate → Operation
+operation c = record { problem = c.problem; terms = best_terms c.outcome }
+
+-- ---- what is written
+
+-- a text that isn't too long is this analysis's
+pub record IsAnalysisText (input : List ℕ) (a : Analysis) : Type 0 where
+  pub short : length input ≤ MOST_BYTES
+  pub reads : analysis_of input ≡ Ok a
+
+-- all operations fit into the flow, all certificates are accepted, and the table is written, which covers all runs
+pub record IsAnalysed (status : Status) (input written : List ℕ) : Type 0 where
+  pub ended : status ≡ Done
+  pub analysis : Analysis
+  pub text : IsAnalysisText input analysis
+  pub fit : AllFit analysis.flow (map signature analysis.certificates)
+  pub accepted : All IsAcceptable analysis.certificates
+  pub table : State
+  pub is_table : IsTable analysis.flow (map operation analysis.certificates) table
+  pub covers : CoversRuns analysis.flow (map operation analysis.certificates) table
+  pub wrote : written ≡ table_text table
+
+-- an operation doesn't fit into the flow, and the number of the first is written
+pub record IsMismatched (status : Status) (input written : List ℕ) : Type 0 where
+  pub ended : status ≡ Refused
+  pub analysis : Analysis
+  pub text : IsAnalysisText input analysis
+  pub number : ℕ
+  pub first : IsFirstMisfit analysis.flow (map signature analysis.certificates) number
+  pub wrote : written ≡ refusal_line (Mismatch number)
+
+-- all operations fit, a certificate isn't accepted, and the number of the first and its fault are written
+pub record IsUnaccepted (status : Status) (input written : List ℕ) : Type 0 where
+  pub ended : status ≡ Rejected
+  pub analysis : Analysis
+  pub text : IsAnalysisText input analysis
+  pub fit : AllFit analysis.flow (map signature analysis.certificates)
+  pub number : ℕ
+  pub certificate : Certificate
+  pub here : slice_get analysis.certificates number ≡ Some certificate
+  pub before : All IsAcceptable (take number analysis.certificates)
+  pub fault : Fault
+  pub has : HasFault certificate fault
+  pub wrote : written ≡ fault_line (decimal number ∷ []) fault
+
+-- what `analyse` writes for an input, by the status behind it
+abbrev pub IsAnalyseDue : Status → List ℕ → List ℕ → Type 0
+IsAnalyseDue status input written =
+    IsAnalysed status input written
+    ⊎ (IsRefusedBy analysis_of status input written
+    ⊎ (IsMismatched status input written ⊎ IsUnaccepted status input written))

@@ -1,0 +1,51 @@
+-- What `list` writes: all best tuples of a small problem.
+use Rattle.std.specs.Prelude.{◌≡◌, ℕ, ◌⊎◌, List, [], ◌∷◌, codes, decimal, flat_map, length, map}
+use Rattle.am_all.specs.AllBest.{AreAllBest}
+use Rattle.am_all.specs.Sizes.{IsSmall, IsTooGreat}
+use Rattle.am_bv.specs.declared.term.Term.{Term}
+use Rattle.am_problem.specs.Problem.{Problem}
+use Rattle.am_problem.specs.Texts.{problem_of}
+use Rattle.am_syntax.specs.Canonical.{lines}
+use Rattle.am_syntax.specs.Readers.{Words}
+use Rattle.am_syntax.specs.Spelling.{letter_code, term_words}
+use Rattle.am_syntax.specs.declared.limits.Letter.TheVariants.{F}
+use Rattle.am_syntax.specs.declared.refusal.Refusal.{Refusal}
+use Rattle.am_tree.specs.Trees.{terms_of}
+use Rattle.am_tree.specs.declared.tree.Tree.{Tree}
+use Rattle.amurth.specs.Lines.{refusal_line}
+use Rattle.amurth.specs.Synthesised.{IsProblemText, IsRefusedBy}
+use Rattle.amurth.specs.declared.status.Status.{Status}
+use Rattle.amurth.specs.declared.status.Status.TheVariants.{Done, Refused}
+
+-- terms on one line
+abbrev pub terms_row : List Term → Words
+terms_row terms = codes "terms" ∷ flat_map (term_words (letter_code F)) terms
+
+-- how many tuples of trees there are, and a line of terms for each
+abbrev pub list_text : Problem → List (List Tree) → List ℕ
+list_text p tuples =
+    lines ((codes "best" ∷ decimal (length tuples) ∷ []) ∷ map (λ ts. terms_row (terms_of p.rules p.starts ts)) tuples)
+
+-- the input is the text of a small problem, and all its best tuples are written
+pub record AreListed (status : Status) (input written : List ℕ) : Type 0 where
+  pub ended : status ≡ Done
+  pub problem : Problem
+  pub text : IsProblemText input problem
+  pub small : IsSmall problem
+  pub tuples : List (List Tree)
+  pub all : AreAllBest problem tuples
+  pub wrote : written ≡ list_text problem tuples
+
+-- the input is the text of a problem that isn't small
+pub record IsDeclined (status : Status) (input written : List ℕ) : Type 0 where
+  pub ended : status ≡ Refused
+  pub problem : Problem
+  pub text : IsProblemText input problem
+  pub refusal : Refusal
+  pub great : IsTooGreat problem refusal
+  pub wrote : written ≡ refusal_line refusal
+
+-- what `list` writes for an input, by the status behind it
+abbrev pub IsListDue : Status → List ℕ → List ℕ → Type 0
+IsListDue status input written =
+    AreListed status input written ⊎ (IsRefusedBy problem_of status input written ⊎ IsDeclined status input written)

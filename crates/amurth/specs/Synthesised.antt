@@ -1,0 +1,69 @@
+-- What `synth` writes: the certificate of a synthesis.
+use Rattle.std.specs.Prelude.{◌≡◌, ℕ, ◌+◌, ◌*◌, ◌^◌, ◌≤◌, ◌<◌, ◌⊎◌, List, Err, length, Result}
+use Rattle.am_cert.specs.Certificate.{Certificate}
+use Rattle.am_cert.specs.Printing.{certificate_text}
+use Rattle.am_cert.specs.declared.limits.TheConstants.{MOST_BYTES}
+use Rattle.am_cert.specs.declared.version.Version.TheVariants.{Two}
+use Rattle.am_dual.specs.Synthesis.{AreConflictsSpent, AreTurnsSpent, IsSynthesis, most_inputs}
+use Rattle.am_problem.specs.Problem.{Problem}
+use Rattle.am_problem.specs.Texts.{Reads, problem_of}
+use Rattle.am_query.specs.declared.outcome.Outcome.{Outcome}
+use Rattle.am_query.specs.declared.outcome.Outcome.TheVariants.{Absent, Best, Conflicts, Turns}
+use Rattle.am_syntax.specs.declared.refusal.Refusal.{Refusal}
+use Rattle.am_syntax.specs.declared.refusal.Refusal.TheVariants.{Long}
+use Rattle.am_tree.specs.Counts.{tuple_count}
+use Rattle.amurth.specs.Lines.{refusal_line}
+use Rattle.amurth.specs.declared.status.Status.{Status}
+use Rattle.amurth.specs.declared.status.Status.TheVariants.{Done, Refused, SpentConflicts, SpentTurns}
+
+-- ---- inputs
+
+-- the input is the text of a problem, within the limits
+pub record IsProblemText (input : List ℕ) (p : Problem) : Type 0 where
+  pub short : length input ≤ MOST_BYTES
+  pub reads : Reads input p
+
+-- the refusal of an input: that it is too long, or the first of its text
+abbrev pub IsRefusalBy : {A : Type 0} → (List ℕ → Result A Refusal) → List ℕ → Refusal → Type 0
+IsRefusalBy value input r =
+    ((MOST_BYTES < length input) × (r ≡ Long)) ⊎ ((length input ≤ MOST_BYTES) × (value input ≡ Err r))
+
+-- the input is refused, and the line that says why is written
+pub record IsRefusedBy {A : Type 0} (value : List ℕ → Result A Refusal) (status : Status) (input written : List ℕ) : Type 0 where
+  pub ended : status ≡ Refused
+  pub refusal : Refusal
+  pub first : IsRefusalBy value input refusal
+  pub wrote : written ≡ refusal_line refusal
+
+-- ---- certificates
+
+-- the status of an outcome
+abbrev pub status_of : Outcome → Status
+status_of (Best t trace sound_log best_log) = Done
+status_of (Absent trace log) = Done
+status_of (Turns trace) = SpentTurns
+status_of (Conflicts trace asked log) = SpentConflicts
+
+-- the certificate of an outcome, whose formulas fold constants
+abbrev pub certificate : Problem → Outcome → Certificate
+certificate p o = record { version = Two; problem = p; outcome = o }
+
+-- how a synthesis ended; with K tuples of trees it never spends K * (K + 1) turns, nor 3 ^ I derived clauses where
+-- no circuit has more than I inputs
+pub record HasEnded (p : Problem) (status : Status) (outcome : Outcome) : Type 0 where
+  pub synthesis : IsSynthesis p outcome
+  pub turns : let k = tuple_count p.rules p.starts p.depth in k * (k + 1) ≤ p.turns → ¬ AreTurnsSpent outcome
+  pub conflicts : 3 ^ most_inputs p ≤ p.conflicts → ¬ AreConflictsSpent outcome
+  pub ended : status ≡ status_of outcome
+
+-- the input is the text of a problem, and what is written is the certificate of its synthesis
+pub record IsSynthesised (status : Status) (input written : List ℕ) : Type 0 where
+  pub problem : Problem
+  pub text : IsProblemText input problem
+  pub outcome : Outcome
+  pub synthesis : HasEnded problem status outcome
+  pub wrote : written ≡ certificate_text (certificate problem outcome)
+
+-- what `synth` writes for an input, by the status behind it
+abbrev pub IsSynthDue : Status → List ℕ → List ℕ → Type 0
+IsSynthDue status input written = IsSynthesised status input written ⊎ IsRefusedBy problem_of status input written
