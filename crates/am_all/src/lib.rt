@@ -46,6 +46,3 @@ mod word_set;
 pub use all::all_best;
 pub use listing::TreeRows;
 pub use size::{MOST_BITS, MOST_TUPLES, small};
-
-#[cfg(test)]
-mod tests;

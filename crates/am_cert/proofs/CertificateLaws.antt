@@ -251,7 +251,8 @@ reads_from text c short e =
       limits = took.1;
     }
 
-reads_to : (text : List ℕ) (c : Certificate) → Reads text c → certificate_of text ≡ Ok c
+-- the certificate of a text that is some certificate's
+pub reads_to : (text : List ℕ) (c : Certificate) → Reads text c → certificate_of text ≡ Ok c
 reads_to text c reads =
     let end : Left = record { tokens = []; end = length text } in
     let all : Takes (text_left text) (certificate_words c) end =

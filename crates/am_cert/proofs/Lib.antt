@@ -24,4 +24,5 @@ pub mod Verdicts
 pub mod TestedItems
 pub mod Given
 pub mod Replayed
+pub mod TextVerdicts
 pub mod Laws

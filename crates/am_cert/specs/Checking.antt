@@ -39,10 +39,16 @@ pub record IsInputOf (text : List ℕ) (c : Certificate) : Type 0 where
   pub short : length text ≤ MOST_BYTES
   pub reads : Reads text c
 
--- the text is an accepted certificate's, whose outcome is right; or it is refused; or its certificate has this first fault
+-- the text is an accepted certificate's, whose outcome is right; or it is refused; or its certificate has this first
+-- fault
 abbrev pub IsVerdict : List ℕ → Result (Unit {0}) FeedEnd → Type 0
 IsVerdict text (Ok u) =
     (c : Certificate) × IsInputOf text c × IsAcceptable c × IsRight c.problem c.outcome
 IsVerdict text (Err (Refused r)) = IsRefusalOf text r
 IsVerdict text (Err (feed.Rejected f)) = (c : Certificate) × IsInputOf text c × HasFault c f
 IsVerdict text (Err feed.NoMemory) = Unit {0}
+
+-- a text of an accepted certificate gets no verdict but that it is accepted, where memory suffices
+abbrev pub AcceptedTextsPass : Type 0
+AcceptedTextsPass = (text : List ℕ) (c : Certificate) → IsInputOf text c → IsAcceptable c →
+    (verdict : Result (Unit {0}) FeedEnd) → IsVerdict text verdict → (verdict ≡ Ok tt) ⊎ (verdict ≡ Err feed.NoMemory)

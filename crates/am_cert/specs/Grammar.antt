@@ -44,7 +44,8 @@ version = token version_judge version_word (λ _. Unit {0})
 
 -- ---- rows of terms and words
 
--- what a problem says of the rows behind it: the width, the number of inputs, the fields of an abstract value, and the turns
+-- what a problem says of the rows behind it: the width, the number of inputs, the fields of an abstract value, and the
+-- turns
 pub record Shape : Type 0 where
   pub width : ℕ
   pub inputs : ℕ

@@ -1,6 +1,6 @@
 //! Certificates as they are read, before the names of their problems are looked up.
 
-ghost use Rattle.am_problem.specs.StoredDraft.{seen_draft};
+ghost use Rattle.am_problem.specs.StoredDraft.{seen_draft as seen};
 ghost use Rattle.am_cert.specs.Certificate.{AreBounded};
 ghost use Rattle.am_cert.specs.inside.Drafts.{CanFollow};
 ghost use Rattle.am_cert.specs.lemmas.Facts.{bounded-prop, follow-prop};
@@ -15,6 +15,6 @@ pub struct CertificateDraft<'a> {
     pub(crate) version: Version,
     pub(crate) problem: Draft<'a>,
     pub(crate) outcome: Outcome,
-    pub(crate) ghost follows: { CanFollow (seen_draft problem) outcome } by { follow-prop (seen_draft problem) outcome },
+    pub(crate) ghost follows: { CanFollow (seen problem) outcome } by { follow-prop (seen problem) outcome },
     pub(crate) ghost bounded: { AreBounded outcome } by { bounded-prop outcome },
 }

@@ -1,8 +1,9 @@
 //! A certificate that comes in pieces.
 
-ghost use Rattle.std.specs.Prelude.{◌≡◌, ◌++◌, ◌≤◌, ◌↔◌, ℕ, List, [], Err, IsErr, IsTrue, OnOk, length};
+ghost use Rattle.std.specs.Prelude.{◌≡◌, ◌++◌, ◌<◌, ◌≤◌, ◌↔◌, ℕ, List, [], Err, IsErr, IsTrue, OnOk, length};
 ghost use Rattle.am_text.specs.Gathered.{Holds};
-ghost use Rattle.am_cert.specs.Checking.{IsVerdict};
+ghost use Rattle.am_syntax.specs.declared.refusal.Refusal.TheVariants.{Long};
+ghost use Rattle.am_cert.specs.Checking.{AcceptedTextsPass, IsVerdict};
 
 use crate::checking::{CheckFail, check};
 use crate::limits::MOST_BYTES;
@@ -107,6 +108,8 @@ impl Feed {
     /// - `NoMemory`: there was no memory, now or for a piece.
     pub fn end(self, alloc: Global) -> Result<(), FeedEnd>
         ensures verdict { (stream : List ℕ) → Holds self stream → IsVerdict stream result }
+        ensures long { (stream : List ℕ) → Holds self stream → MOST_BYTES < length stream →
+            result ≡ Err (FeedEnd.Refused Long) }
         ensures refused { IsTrue self.refused → result ≡ Err FeedEnd.NoMemory }
     {
         let Feed { stream } = self;
@@ -117,6 +120,11 @@ impl Feed {
         }
     }
 }
+
+/// A text of an accepted certificate is accepted, where memory suffices: it gets no other verdict.
+pub fn accepted_texts_pass()
+    ensures { AcceptedTextsPass }
+{}
 
 /// Reads the certificate of a text, and checks it.
 fn checked(alloc: Global, text: &[u8]) -> Result<(), FeedEnd>

@@ -19,6 +19,7 @@
 //! where the outcome is accepted, by the conditions of `am_query/specs/Acceptance.antt` over the formulas of the
 //! certificate's version, and then **the term is best, or no transformer of the problem is sound**; else it answers the
 //! first fault. [`Feed::end`] answers for every cutting of a text into pieces what reading and checking the whole answers.
+//! A text of an accepted certificate gets no other verdict.
 #![tactic(auto)]
 
 mod answers;
@@ -43,15 +44,8 @@ mod version;
 pub use certificate::Certificate;
 pub use checking::{CheckFail, check};
 pub use draft::CertificateDraft;
-pub use feed::{Feed, FeedEnd};
+pub use feed::{Feed, FeedEnd, accepted_texts_pass};
 pub use limits::{MOST_BYTES, MOST_NESTING, MOST_TERM_NODES};
 pub use printing::{canonical_certificates_are_read, outcomes_can_be_written, print_certificate};
 pub use reading::{certificate_at, certificate_texts_are_settled, read_certificate};
 pub use version::Version;
-
-#[cfg(test)]
-mod checking_tests;
-#[cfg(test)]
-mod printing_tests;
-#[cfg(test)]
-mod reading_tests;

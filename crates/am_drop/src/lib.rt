@@ -19,6 +19,3 @@ mod keeping;
 
 pub use keeper::keep;
 pub use keeping::Keeping;
-
-#[cfg(test)]
-mod tests;

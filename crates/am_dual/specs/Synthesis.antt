@@ -50,6 +50,7 @@ AreConflictsSpent (Absent trace log) = ⊥
 AreConflictsSpent (Turns trace) = ⊥
 AreConflictsSpent (Conflicts trace asked log) = Unit {0}
 
--- the most inputs that the circuit of a query of the problem has: of soundness, or of precision, which has those of a fit
+-- the most inputs that the circuit of a query of the problem has: of soundness, or of precision, which has those of a
+-- fit
 abbrev pub most_inputs : Problem → ℕ
 most_inputs p = max (input_count p (Sound [])) (input_count p (Precise [] [] []))

@@ -29,6 +29,3 @@ mod synthesis;
 mod turns;
 
 pub use synthesis::synthesise;
-
-#[cfg(test)]
-mod tests;

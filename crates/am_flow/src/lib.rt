@@ -11,9 +11,9 @@
 //! [`flow_at`] answers exactly the flow that is spelled, by `specs/Grammar.antt`, or the first refusal.
 //! [`Flow::matches`] answers `Mismatch` exactly where an operation doesn't fit, with the first one. [`analyse`] answers
 //! the first state of `specs/States.antt` that equals the next one, after at most M * (V * k * 2^w + 1) rounds for M
-//! nodes and V variables of k fields and w bits. **Where the transformers are sound, the words of every run of the flow
-//! are members of the table's entry at its last node** ([`theorems`]); a run follows an edge with an operation only where
-//! the operation's assumption holds. [`print_table`] appends exactly the table's lines.
+//! nodes and V variables of k fields and w bits. **Where the transformers are sound, the words of every run of the
+//! flow are members of the table's entry at its last node** ([`theorems`]); a run follows an edge with an operation
+//! only where the operation's assumption holds. [`print_table`] appends exactly the table's lines.
 #![tactic(auto)]
 
 mod analysis;
@@ -40,6 +40,3 @@ pub use reading::flow_at;
 pub use signature::Signature;
 pub use table::Table;
 pub use values::Values;
-
-#[cfg(test)]
-mod tests;

@@ -5,7 +5,8 @@ use Rattle.am_lit.specs.Truth.{IsSatisfiable, Satisfies}
 use Rattle.am_domain.specs.Examples.{Covers, Excludes, IsTrueExample, IsValidExample, NoneIsCloser, NoneSatisfies}
 use Rattle.am_domain.specs.Examples.{Positive as Example, Negative as NegativeExample}
 use Rattle.am_domain.specs.Question.{IsSound}
-use Rattle.am_problem.specs.Examples.{IsNegative, IsPositive, IsTransformer, negative_of, negatives_of, positive_of, positives_of}
+use Rattle.am_problem.specs.Examples.{IsNegative, IsPositive, IsTransformer}
+use Rattle.am_problem.specs.Examples.{negative_of, negatives_of, positive_of, positives_of}
 use Rattle.am_problem.specs.Limits.{IsFormed}
 use Rattle.am_problem.specs.Problem.{Problem, question_of}
 use Rattle.am_problem.specs.declared.examples.Negative.{Negative}
@@ -23,7 +24,8 @@ pub record AreExamples (p : Problem) (positives : List Positive) (negatives : Li
   pub positives_stored : All (IsPositive p) positives
   pub negatives_stored : All (IsNegative p) negatives
 
--- where truth values satisfy the formula of a fit, the terms that they choose are a transformer that satisfies the examples
+-- where truth values satisfy the formula of a fit, the terms that they choose are a transformer that satisfies the
+-- examples
 abbrev pub FitsAreChosen : Type 0
 FitsAreChosen = (folding : Bool) (p : Problem) (positives : List Positive) (negatives : List Negative) →
     AreExamples p positives negatives →
@@ -49,49 +51,58 @@ UnsatisfiedFitHasNone = (folding : Bool) (p : Problem) (positives : List Positiv
 -- where truth values satisfy the formula of soundness, the terms fail the true example that they choose
 abbrev pub FailedExamplesAreChosen : Type 0
 FailedExamplesAreChosen = (folding : Bool) (p : Problem) → IsFormed p → (terms : List Term) → IsTransformer p terms →
-    (v : ℕ → Bool) → Satisfies v (circuit_of folding p (Sound terms)).clauses → IsUncovered p terms (chosen_positive p v)
+    (v : ℕ → Bool) → Satisfies v (circuit_of folding p (Sound terms)).clauses →
+    IsUncovered p terms (chosen_positive p v)
 
 -- each true example that the terms fail is chosen by truth values that satisfy the formula of soundness
 abbrev pub FailedExamplesAreReached : Type 0
 FailedExamplesAreReached = (folding : Bool) (p : Problem) → IsFormed p → (terms : List Term) → IsTransformer p terms →
     (e : Example) → IsTrueExample (question_of p) e → ¬ Covers (question_of p) terms e →
-    (v : ℕ → Bool) × Satisfies v (circuit_of folding p (Sound terms)).clauses × (positive_of p (chosen_positive p v) ≡ e)
+    (v : ℕ → Bool) × Satisfies v (circuit_of folding p (Sound terms)).clauses
+    × (positive_of p (chosen_positive p v) ≡ e)
 
 -- where no truth values satisfy the formula of soundness, the terms are sound
 abbrev pub UnsatisfiedSoundnessIsSound : Type 0
-UnsatisfiedSoundnessIsSound = (folding : Bool) (p : Problem) → IsFormed p → (terms : List Term) → IsTransformer p terms →
+UnsatisfiedSoundnessIsSound = (folding : Bool) (p : Problem) → IsFormed p →
+    (terms : List Term) → IsTransformer p terms →
     ¬ IsSatisfiable (circuit_of folding p (Sound terms)).clauses → IsSound (question_of p) terms
 
 -- ---- precision
 
 -- terms and examples of the problem
-pub record IsComparison (p : Problem) (terms : List Term) (positives : List Positive) (negatives : List Negative) : Type 0 where
+pub record IsComparison (p : Problem) (terms : List Term) (positives : List Positive) (negatives : List Negative)
+    : Type 0 where
   pub formed : IsFormed p
   pub transformer : IsTransformer p terms
   pub positives_stored : All (IsPositive p) positives
   pub negatives_stored : All (IsNegative p) negatives
 
--- where truth values satisfy the formula of precision, the transformer that they choose satisfies the examples, and excludes the
--- negative example that they choose, which the terms admit
+-- where truth values satisfy the formula of precision, the transformer that they choose satisfies the examples, and
+-- excludes the negative example that they choose, which the terms admit
 abbrev pub CloserOnesAreChosen : Type 0
-CloserOnesAreChosen = (folding : Bool) (p : Problem) (terms : List Term) (positives : List Positive) (negatives : List Negative) →
+CloserOnesAreChosen = (folding : Bool) (p : Problem) (terms : List Term) (positives : List Positive)
+    (negatives : List Negative) →
     IsComparison p terms positives negatives →
     (v : ℕ → Bool) → Satisfies v (circuit_of folding p (Precise terms positives negatives)).clauses →
-    IsCloser p terms positives negatives (chosen_terms p v) (chosen_negative p (circuit_of folding p (Fit positives negatives)).vars v)
+    IsCloser p terms positives negatives (chosen_terms p v)
+    (chosen_negative p (circuit_of folding p (Fit positives negatives)).vars v)
 
 -- each such transformer and example are chosen by truth values that satisfy the formula of precision
 abbrev pub CloserOnesAreReached : Type 0
-CloserOnesAreReached = (folding : Bool) (p : Problem) (terms : List Term) (positives : List Positive) (negatives : List Negative) →
+CloserOnesAreReached = (folding : Bool) (p : Problem) (terms : List Term) (positives : List Positive)
+    (negatives : List Negative) →
     IsComparison p terms positives negatives →
     (other : List Term) → IsTransformerOf p other → Suits p other positives negatives →
-    (e : NegativeExample) → IsValidExample (question_of p) e → Excludes (question_of p) other e → ¬ Excludes (question_of p) terms e →
+    (e : NegativeExample) → IsValidExample (question_of p) e → Excludes (question_of p) other e →
+    ¬ Excludes (question_of p) terms e →
     (v : ℕ → Bool) × Satisfies v (circuit_of folding p (Precise terms positives negatives)).clauses
     × (chosen_terms p v ≡ other)
     × (negative_of p (chosen_negative p (circuit_of folding p (Fit positives negatives)).vars v) ≡ e)
 
 -- where no truth values satisfy the formula of precision, no transformer that satisfies the examples is closer
 abbrev pub UnsatisfiedPrecisionHasNoneCloser : Type 0
-UnsatisfiedPrecisionHasNoneCloser = (folding : Bool) (p : Problem) (terms : List Term) (positives : List Positive) (negatives : List Negative) →
+UnsatisfiedPrecisionHasNoneCloser = (folding : Bool) (p : Problem) (terms : List Term) (positives : List Positive)
+    (negatives : List Negative) →
     IsComparison p terms positives negatives →
     ¬ IsSatisfiable (circuit_of folding p (Precise terms positives negatives)).clauses →
     NoneIsCloser (question_of p) terms (positives_of p positives) (negatives_of p negatives)

@@ -73,10 +73,3 @@ pub use query::Query;
 pub use soundness::sound;
 pub use state::State;
 pub use turn::{Trace, Turn};
-
-#[cfg(test)]
-mod cases;
-#[cfg(test)]
-mod tests;
-#[cfg(test)]
-mod turn_tests;

@@ -2,9 +2,10 @@
 //! which is proved, and a call brings it into the caller's proof.
 
 ghost use Rattle.am_query.specs.AcceptanceLaws.{AcceptedIsRight, VerdictsAreUnique, VerdictsExist};
-ghost use Rattle.am_query.specs.QueryLaws.{CloserOnesAreChosen, CloserOnesAreReached, UnsatisfiedPrecisionHasNoneCloser};
-ghost use Rattle.am_query.specs.QueryLaws.{FailedExamplesAreChosen, FailedExamplesAreReached, UnsatisfiedSoundnessIsSound};
+ghost use Rattle.am_query.specs.QueryLaws.{CloserOnesAreChosen, CloserOnesAreReached};
+ghost use Rattle.am_query.specs.QueryLaws.{FailedExamplesAreChosen, FailedExamplesAreReached};
 ghost use Rattle.am_query.specs.QueryLaws.{FitsAreChosen, FitsAreReached, UnsatisfiedFitHasNone};
+ghost use Rattle.am_query.specs.QueryLaws.{UnsatisfiedPrecisionHasNoneCloser, UnsatisfiedSoundnessIsSound};
 ghost use Rattle.am_query.specs.TurnLaws.{TurnsAreFew};
 
 /// Truth values that satisfy the formula of a fit choose a transformer that satisfies the examples, and each such

@@ -93,6 +93,7 @@ longer_due stream rest long s written h = record {
   verdict = h.verdict;
   right = longer_verdict stream rest long h.verdict h.right;
   report = h.report;
+  own = λ problem synthesised short. absurd (omega (arith, long, short, length-append stream rest));
 }
 
 -- what is due to too many bytes of an input is due to the whole

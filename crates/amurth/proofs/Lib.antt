@@ -2,6 +2,7 @@ pub mod Printable
 pub mod Commands
 pub mod Syntheses
 pub mod MadeCounts
+pub mod OwnCertificates
 pub mod Dues
 pub mod AnalysisLaws
 pub mod AnalysisFits

@@ -168,6 +168,44 @@ fn inputs_get_their_answers(rt: HostRuntime) -> Result<(), Fail> {
     Ok(())
 }
 
+/// The decrement of a word that isn't 0.
+const DECREMENT: &str =
+    "amurth 1 width 2 operation 1 (sub x0 1) assume (ult 0 x0) domain u-interval start L H depth 1 turns 40 conflicts 100000 rule L (sub f0 1) 0 (sub (umax f0 1) 1) rule H (sub f1 1) 3 end";
+
+/// Flows behind a certificate of the decrement, and what is written for them.
+static FLOWS: &str = "\
+flow 1 width 2 domain u-interval variables 1 nodes 3 edge 0 1 set 0 2 edge 1 1 apply 0 0 0 edge 1 2 skip end = Done node 0 0,3|node 1 0,2|node 2 0,2|
+flow 1 width 2 domain u-interval variables 2 nodes 2 edge 0 1 set 1 0 edge 1 1 apply 0 0 1 end = Done node 0 0,3 0,3|node 1 0,3 0,0|
+flow 1 width 3 domain u-interval variables 1 nodes 1 end = Refused refused Mismatch 0|
+flow 1 width 2 domain s-interval variables 1 nodes 1 end = Refused refused Mismatch 0|
+flow 1 width 2 domain u-interval variables 1 nodes 2 edge 0 1 apply 0 0 0 0 end = Refused refused Mismatch 0|";
+
+#[test]
+fn accepted_transformers_are_used(rt: HostRuntime) -> Result<(), Fail> {
+    let alloc = rt.alloc();
+    let (_, certificate) = said(alloc, "synth", DECREMENT, 1000)?;
+    for row in FLOWS.lines() {
+        let (flow, expected) = row.split_once(" = ").ok_or("no answer")?;
+        let text = format!(in alloc; "{certificate}{flow}")?;
+        let found = shown(alloc, "analyse", &text)?;
+        assert_eq!(rt; found.as_str(), expected, "{flow}");
+    }
+    Ok(())
+}
+
+#[test]
+fn a_certificate_without_its_last_chain_is_rejected(rt: HostRuntime) -> Result<(), Fail> {
+    let alloc = rt.alloc();
+    let (_, certificate) = said(alloc, "synth", DECREMENT, 1000)?;
+    let (before, _) = certificate.rsplit_once("chain").ok_or("no chain")?;
+    let text = format!(in alloc;
+        "{before}end flow 1 width 2 domain u-interval variables 1 nodes 1 end"
+    )?;
+    let found = shown(alloc, "analyse", &text)?;
+    assert_eq!(rt; found.as_str(), "Rejected rejected 0 NotEmpty 1|");
+    Ok(())
+}
+
 /// Command lines, and what is written for them.
 static LINES: &str = "\
 make 7 = Done make 7|slots 6|tuples 5776|load 31518|answer best|term 2|term 1|

@@ -49,7 +49,12 @@ module _ (s : Shape) where
 
   example-prop : (count : ℕ) → IsSettled (example s count)
   example-prop count x =
-      hlevel (terms-prop x.0, words-prop (s.inputs * s.fields) x.1.0, words-prop s.inputs x.1.1.0, places-prop count x.1.1.1)
+      hlevel (
+        terms-prop x.0,
+        words-prop (s.inputs * s.fields) x.1.0,
+        words-prop s.inputs x.1.1.0,
+        places-prop count x.1.1.1,
+      )
 
   counterexample-prop : IsSettled (counterexample s)
   counterexample-prop x = hlevel (terms-prop x.0, words-prop (s.inputs * s.fields) x.1.0, word-prop x.1.1)

@@ -8,7 +8,8 @@ use Rattle.am_slot.specs.Template.{block, weight_of_block}
 use Rattle.am_problem.specs.Examples.{all_fields}
 use Rattle.am_problem.specs.Loads.{assumption_weight}
 use Rattle.am_problem.specs.Problem.{Problem}
-use Rattle.am_query.specs.Formulas.{assumed, encoding_of, forced, input_word, input_words, member_test, members, outputs, refused, valid}
+use Rattle.am_query.specs.Formulas.{assumed, encoding_of, forced, input_word, input_words, member_test, members}
+use Rattle.am_query.specs.Formulas.{outputs, refused, valid}
 use Rattle.am_query.specs.inside.Weights.{member_weight, valid_weight}
 
 -- the words are members of the fields' inputs, and the terms don't cover the operation there

@@ -3,8 +3,8 @@
 ghost use Rattle.std.specs.Prelude.{◌≡◌, ◌≤◌, All, IfOk, length};
 ghost use Rattle.am_problem.specs.Examples.{IsNegative, IsPositive};
 
-use crate::{Keeping, keep};
 use am_bv::{Op, Term};
+use am_drop::{Keeping, keep};
 use am_problem::{
     Inputs, Negative, Negatives, Positive, Positives, Problem, WordRow, read_problem,
 };

@@ -1,6 +1,6 @@
 //! Canonical texts of certificates, as an independent reference prints them.
 
-use super::*;
+use am_cert::{MOST_BYTES, print_certificate, read_certificate};
 use am_syntax::{ReadError, Refusal};
 use am_text::Writer;
 use std::alloc::Global;

@@ -4,8 +4,8 @@ ghost use Rattle.std.specs.Prelude.{◌≡◌, IfOk, true};
 ghost use Rattle.am_problem.specs.Examples.{IsTransformer};
 ghost use Rattle.am_flow.specs.Flows.{IsFlow};
 
-use super::*;
 use am_domain::Domain;
+use am_flow::{Flow, Operation, Signature, Table, analyse, flow_at, print_table};
 use am_problem::{Problem, Transformer, read_problem};
 use am_syntax::{Letter, ReadError, Refusal, TermLimits, open, read_term};
 use am_text::Writer;
@@ -53,7 +53,15 @@ depth 1 turns 40 conflicts 100000 rule L (ite f1 (sub (umax f0 1) 1) 3) 0 rule H
 };
 
 /// Texts of flows over one operation, with their first refusals.
-static REFUSED: [(&str, Refusal); 3] = [
+static REFUSED: [(&str, Refusal); 5] = [
+    (
+        "flow 1 width 2 domain parity variables 9 nodes 3 end",
+        Refusal::Number(39),
+    ),
+    (
+        "flow 1 width 2 domain parity variables 8 nodes 65 end",
+        Refusal::Number(47),
+    ),
     (
         "flow 1 width 2 domain parity variables 1 nodes 3 edge 0 3 skip end",
         Refusal::Number(56),
@@ -174,6 +182,28 @@ fn widths_have_to_match(rt: HostRuntime) -> Result<(), Fail> {
     let text = "flow 1 width 3 domain u-interval variables 2 nodes 1 edge 0 0 apply 0 0 0 1 end";
     let flow = read(rt.alloc(), text, 1)?;
     assert_eq!(rt; flow.matches(&[signature(&p)]), Err(Refusal::Mismatch(0)));
+    Ok(())
+}
+
+/// A flow of the most variables and nodes, with so many edges.
+fn flow_of_edges(alloc: Global, edges: u32) -> Result<String, AllocError> {
+    let mut text = format!(in alloc; "flow 1 width 2 domain parity variables 8 nodes 64")?;
+    for _ in 0..edges {
+        text.push_str(" edge 63 0 any 7")?;
+    }
+    text.push_str(" end")?;
+    Ok(text)
+}
+
+#[test]
+fn flows_have_256_edges(rt: HostRuntime) -> Result<(), Fail> {
+    let text = flow_of_edges(rt.alloc(), 256)?;
+    let flow = read(rt.alloc(), &text, 0)?;
+    assert_eq!(rt; flow.edges().len(), 256);
+    let text = flow_of_edges(rt.alloc(), 257)?;
+    assert!(rt;
+        read(rt.alloc(), &text, 0).is_err_and(|e| e == ReadError::Refused(Refusal::Count(4146)))
+    );
     Ok(())
 }
 

@@ -1,6 +1,6 @@
 //! Certificates that were written by hand, and what is said of them.
 
-use crate::{CheckFail, Feed, check, read_certificate};
+use am_cert::{CheckFail, Feed, check, read_certificate};
 use am_chain::Why;
 use am_query::Fault;
 use std::alloc::Global;

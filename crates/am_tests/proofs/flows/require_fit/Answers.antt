@@ -5,7 +5,7 @@ use Rattle.std.proofs.lemmas.List.Elements.{All-push}
 use Rattle.am_bv.specs.Terms.{fits}
 use Rattle.am_bv.specs.declared.term.Term.{Term}
 use Rattle.am_problem.specs.Examples.{all_fields}
-use Rattle.am_flow.proofs.tests.require_fit.Goals as goal
+use Rattle.am_tests.proofs.flows.require_fit.Goals as goal
 
 pub loop-term-preserved : goal.loop-term-preserved
 loop-term-preserved g c =

@@ -1,7 +1,7 @@
 //! Outcomes of small problems, as an independent reference has them.
 
-use crate::synthesise;
 use am_bv::{Op, Term};
+use am_dual::synthesise;
 use am_problem::{Transformer, read_problem};
 use am_query::{Outcome, Trace, Turn};
 use std::alloc::{AllocError, Global};

@@ -5,7 +5,7 @@ use Rattle.am_problem.specs.Limits.{IsProblem}
 use Rattle.am_flow.specs.Flows.{AllFit, AreOperations, Flow, IsFlow, IsOperation, Operation, signature_of}
 use Rattle.am_flow.specs.declared.signature.Signature.{Signature}
 use Rattle.am_flow.specs.Stored.{seen_operation}
-use Rattle.am_flow.proofs.tests.analysed.Goals as goal
+use Rattle.am_tests.proofs.flows.analysed.Goals as goal
 
 -- a flow's one operation
 one_operation : (f : Flow) (o : Operation) → IsFlow 1 f → AllFit f (signature_of o ∷ []) → IsProblem o.problem →

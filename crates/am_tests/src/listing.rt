@@ -1,6 +1,6 @@
 //! Lists of best tuples and refusals, as an independent reference has them.
 
-use super::*;
+use am_all::{TreeRows, all_best, small};
 use am_bv::Row;
 use am_problem::read_problem;
 use am_syntax::Refusal;

@@ -1,6 +1,6 @@
 //! What texts of certificates say, as an independent reference has it.
 
-use super::*;
+use am_cert::{Certificate, MOST_BYTES, read_certificate};
 use am_query::Outcome;
 use am_syntax::{ReadError, Refusal};
 use std::alloc::{AllocError, Global};
@@ -128,15 +128,19 @@ fn texts_say_what_the_reference_has(rt: HostRuntime) -> Result<(), Fail> {
     Ok(())
 }
 
+/// The version of a certificate of no transformer, and what it tells.
+fn version_said(alloc: Global, version: &str) -> Result<String, Fail> {
+    let text = format!(in alloc; "certificate {version}\n{NOTHING_DERIVED}")?;
+    let c = read(alloc, &text)?;
+    let told = told(alloc, c.outcome())?;
+    let version = c.version();
+    Ok(format!(in alloc; "{version:?} {told}")?)
+}
+
 #[test]
 fn both_versions_are_read(rt: HostRuntime) -> Result<(), Fail> {
-    let text = format!(in rt.alloc(); "certificate 1\n{NOTHING_DERIVED}")?;
-    let c = read(rt.alloc(), &text)?;
-    assert_eq!(rt; c.version(), Version::One);
-    assert_eq!(rt; c.problem().turns(), 0);
-    assert_eq!(rt; told(rt.alloc(), c.outcome())?.as_str(), "none 0 1");
-    let text = format!(in rt.alloc(); "certificate 2\n{NOTHING_DERIVED}")?;
-    assert_eq!(rt; read(rt.alloc(), &text)?.version(), Version::Two);
+    assert_eq!(rt; version_said(rt.alloc(), "1")?.as_str(), "One none 0 1");
+    assert_eq!(rt; version_said(rt.alloc(), "2")?.as_str(), "Two none 0 1");
     Ok(())
 }
 
