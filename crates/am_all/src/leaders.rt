@@ -53,7 +53,8 @@ fn next_leaders(
 ) -> Result<Vec<Numbers>, AllocError>
     requires leaders { All (IsResult (length cases.now) (length sets.now)) leaders.items }
     requires result { IsResult (length cases.now) (length sets.now) numbers }
-    ensures { IfOk result (λ next. (listed : List (List ℕ)) → AreLeaders cases.now sets.now listed leaders.items →
+    ensures { IfOk result (λ next. (listed : List (List ℕ)) →
+        AreLeaders cases.now sets.now listed leaders.items →
         AreLeaders cases.now sets.now (listed ++ numbers ∷ []) next.items) }
 {
     if !is_covering(cases, sets, numbers.as_slice())

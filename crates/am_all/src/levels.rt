@@ -9,7 +9,7 @@ use am_bv::Row;
 use am_tree::{Grammar, Production, Productions};
 use std::alloc::{AllocError, Global};
 
-/// For each nonterminal whether it has a tree with some depth.
+/// For each nonterminal whether it may have a tree with some depth. Where that is false it has none.
 pub type Level = Row<bool>;
 
 /// The levels of the depths from 0 up to the grammar's.
@@ -51,7 +51,7 @@ fn above(alloc: Global, rules: &[Productions], below: &[bool]) -> Result<Level, 
     Ok(level)
 }
 
-/// Whether one of the productions has a tree whose children have the depth of the level.
+/// Whether one of the productions may have a tree whose children have the depth of the level.
 fn has_tree(productions: &[Production], below: &[bool]) -> bool
     ensures { result ≡ false → (f : ℕ → List Tree) → IsTold f below.now →
         All (λ p. (i : ℕ) → trees_by f i p ≡ []) productions.now }
@@ -69,7 +69,7 @@ fn has_tree(productions: &[Production], below: &[bool]) -> bool
     false
 }
 
-/// Whether each of the nonterminals has a tree.
+/// Whether each of the nonterminals may have a tree.
 pub fn have_trees(names: &[u32], level: &[bool]) -> bool
     ensures { result ≡ false → (f : ℕ → List Tree) → IsTold f level.now → choices (map f names.now) ≡ [] }
 {

@@ -4,7 +4,7 @@
 //! tuples of trees; [`small`] tells, and refuses the others. [`all_best`] lists all tuples of trees whose terms are
 //! best, in a stated order.
 //!
-//! ```
+//! ```text
 //! let p = read_problem(alloc, text)?;
 //! small(&p)?;
 //! let best = all_best(alloc, &p)?;
@@ -19,11 +19,11 @@
 //! # What is proved
 //!
 //! [`small`] is Ok exactly where the problem is small. Else the refusal is `Wide` with the bits of the inputs'
-//! fields where they are more than 16, and `Many` with the number of tuples where those are fewer. [`all_best`]
-//! answers **exactly** those tuples of trees from the starts whose terms are best, in the order of the trees: by the
-//! first tree, then by the second, and so on, where the trees of a nonterminal go by their productions and then by
-//! their children. Two tuples with the same terms are both listed. The list has the terms of each best transformer,
-//! and it is empty exactly where no transformer is sound ([`theorems`]).
+//! fields where they are more than 16, and else `Many` with the number of tuples, or with 2^64 - 1 where there are
+//! more. [`all_best`] answers **exactly** those tuples of trees from the starts whose terms are best, in the order
+//! of the trees: by the first tree, then by the second, and so on, where the trees of a nonterminal go by their
+//! productions and then by their children. Two tuples with the same terms are both listed. The list has the terms
+//! of each best transformer, and it is empty exactly where no transformer is sound ([`theorems`]).
 //!
 //! No clause speaks of the cost. Each tree is evaluated once at each input. The tuples are then compared by the
 //! numbers of their results: of the sound ones those lead that no other leader is inside, so that few are compared

@@ -1,5 +1,7 @@
--- Congruences modulo powers of two. A tuple has two words m and r: its members are the words congruent to r modulo m + 1.
-use Rattle.std.specs.Prelude.{◌≡◌, ℕ, zero, suc, ◌+◌, ◌-◌, ◌^◌, ◌≤◌, if◌then◌else◌, List, [], ◌∷◌, slice_index, ◌==◌, bit_and, bit_xor, count_ones}
+-- Congruences modulo powers of two. A tuple has two words m and r: its members are the words congruent to r
+-- modulo m + 1.
+use Rattle.std.specs.Prelude.{◌≡◌, ℕ, zero, suc, ◌+◌, ◌-◌, ◌^◌, ◌≤◌, if◌then◌else◌, List, [], ◌∷◌, slice_index, ◌==◌}
+use Rattle.std.specs.Prelude.{bit_and, bit_xor, count_ones}
 use Rattle.std.specs.declared.option.Option.{Option}
 use Rattle.std.specs.declared.option.Option.TheVariants.{Some}
 use Rattle.std.specs.Int.{bit_at}

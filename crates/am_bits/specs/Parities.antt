@@ -1,5 +1,6 @@
 -- The parity of words. A tuple has one word p: its bit 0 stands for the even words and its bit 1 for the odd ones.
-use Rattle.std.specs.Prelude.{◌≡◌, ℕ, ◌-◌, ◌%◌, ◌≤◌, if◌then◌else◌, List, [], ◌∷◌, slice_index, ◌==◌, bit_and, bit_or, count_ones}
+use Rattle.std.specs.Prelude.{◌≡◌, ℕ, ◌-◌, ◌%◌, ◌≤◌, if◌then◌else◌, List, [], ◌∷◌, slice_index, ◌==◌, bit_and, bit_or}
+use Rattle.std.specs.Prelude.{count_ones}
 use Rattle.std.specs.declared.option.Option.{Option}
 use Rattle.std.specs.declared.option.Option.TheVariants.{Some, None}
 use Rattle.std.specs.Int.{bit_at}

@@ -6,7 +6,8 @@ use Rattle.am_bits.specs.Congruences.{mask, residue, IsCongruence, IsCongruent, 
 abbrev pub MembersLeaveResidue : Type 0
 MembersLeaveResidue = (w : ℕ) (a : List ℕ) (c : ℕ) → IsCongruence w a → IsCongruent a c ↔ (c % (mask a + 1) ≡ residue a)
 
--- the low ones of a number are one less than a power of two, their bits are all in the number, and no such number is greater
+-- the low ones of a number are one less than a power of two, their bits are all in the number, and no such number
+-- is greater
 abbrev pub LowIsMask : Type 0
 LowIsMask = (x : ℕ) → (j : ℕ) × (low x + 1 ≡ 2 ^ j)
 

@@ -2,7 +2,9 @@
 
 ghost use Rattle.std.specs.Prelude.{◌≡◌};
 ghost use Rattle.std.proofs.Common.{lit≤};
-ghost use Rattle.am_bits.specs.Congruences.{congruences, low, modulo, congruence_top, congruence_of_word, residue, congruence_join, congruence_tidy, congruence_rank, congruence_valid_term, congruence_member_term};
+ghost use Rattle.am_bits.specs.Congruences.{congruences, low, modulo, congruence_top, congruence_of_word, residue};
+ghost use Rattle.am_bits.specs.Congruences.{congruence_join, congruence_tidy, congruence_rank, congruence_valid_term};
+ghost use Rattle.am_bits.specs.Congruences.{congruence_member_term};
 ghost use Rattle.am_bits.specs.lemmas.CongruenceLaws as laws;
 
 use am_bv::{Op, Term, Width};

@@ -1,7 +1,8 @@
 //! Known bits.
 
 ghost use Rattle.std.proofs.Common.{lit≤};
-ghost use Rattle.am_bits.specs.KnownBits.{known_bits, known_top, known_of_word, ones, known_join, known_tidy, known_rank, known_valid_term, known_member_term};
+ghost use Rattle.am_bits.specs.KnownBits.{known_bits, known_top, known_of_word, ones, known_join, known_tidy};
+ghost use Rattle.am_bits.specs.KnownBits.{known_rank, known_valid_term, known_member_term};
 ghost use Rattle.am_bits.specs.lemmas.KnownLaws as laws;
 
 use am_bv::{Op, Term, Width};

@@ -34,6 +34,3 @@ pub mod theorems;
 pub use congruence::Congruence;
 pub use known::Known;
 pub use parity::Parity;
-
-#[cfg(test)]
-mod tests;

@@ -1,7 +1,8 @@
 //! Parity.
 
 ghost use Rattle.std.proofs.Common.{lit≤};
-ghost use Rattle.am_bits.specs.Parities.{parities, parity_top, parity_of_word, parity_some_member, parity_join, parity_tidy, parity_rank, parity_valid_term, parity_member_term};
+ghost use Rattle.am_bits.specs.Parities.{parities, parity_top, parity_of_word, parity_some_member, parity_join};
+ghost use Rattle.am_bits.specs.Parities.{parity_tidy, parity_rank, parity_valid_term, parity_member_term};
 ghost use Rattle.am_bits.specs.lemmas.ParityLaws as laws;
 
 use am_bv::{Op, Term, Width};

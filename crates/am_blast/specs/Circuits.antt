@@ -3,7 +3,8 @@ use Rattle.std.specs.Prelude.{ℕ, List, [], ◌∷◌, slice_index_or}
 use Rattle.am_gate.specs.Circuit.{truth, falsity}
 use Rattle.am_gate.specs.Build.{Step, ◌>>=◌, answer}
 use Rattle.am_bv.specs.declared.op.Op.{Op}
-use Rattle.am_bv.specs.declared.op.Op.TheVariants.{Not, Neg, And as OpAnd, Or, Xor as OpXor, Add, Sub, Mul, Udiv, Urem, Shl, Lshr, Ashr, Eq, Ult, Ule, Slt, Sle, Umin, Umax, Smin, Smax, Ite}
+use Rattle.am_bv.specs.declared.op.Op.TheVariants.{Not, Neg, And as OpAnd, Or, Xor as OpXor, Add, Sub, Mul, Udiv, Urem}
+use Rattle.am_bv.specs.declared.op.Op.TheVariants.{Shl, Lshr, Ashr, Eq, Ult, Ule, Slt, Sle, Umin, Umax, Smin, Smax, Ite}
 use Rattle.am_bv.specs.declared.term.Term.{Term, fold-Term}
 use Rattle.am_bv.specs.declared.term.Term.TheOpen.{Term-F, Const, Field, Node}
 use Rattle.am_blast.specs.declared.bitwise.Gate.TheVariants.{Both, Either, Differ}

@@ -49,8 +49,3 @@ pub use operator::apply;
 pub use sum::zeros;
 pub use terms::{blast, constant};
 pub use word::{WordLits, Words, copied};
-
-#[cfg(test)]
-mod expected;
-#[cfg(test)]
-mod tests;

@@ -1,6 +1,7 @@
 //! The circuit of a term.
 
-ghost use Rattle.std.specs.Prelude.{ℕ, Bool, ◌≡◌, false, ◌+◌, ◌%◌, ◌^◌, ◌<◌, ◌==◌, if◌then◌else◌, IfOk, OnOk, All, IsTrue, length, map};
+ghost use Rattle.std.specs.Prelude.{ℕ, Bool, ◌≡◌, false, ◌+◌, ◌%◌, ◌^◌, ◌<◌, ◌==◌, if◌then◌else◌, IfOk, OnOk, All};
+ghost use Rattle.std.specs.Prelude.{IsTrue, length, map};
 ghost use Rattle.am_gate.specs.Circuit.{truth, falsity, AreScoped, HasRoom, Grows, Begins};
 ghost use Rattle.am_gate.specs.Value.{Meets};
 ghost use Rattle.am_gate.specs.Build.{place_of, Follows, AreGates};

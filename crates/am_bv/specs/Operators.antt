@@ -1,8 +1,10 @@
 -- What the operators compute, as whole-number arithmetic modulo 2 ^ w. Division by zero, shifts by w or more and the
 -- signed comparisons are those of SMT-LIB's fixed-size bit-vectors.
-use Rattle.std.specs.Prelude.{ℕ, ◌+◌, ◌-◌, ◌*◌, ◌/◌, ◌%◌, ◌^◌, if◌then◌else◌, List, slice_index, nat_lt, nat_le, ◌==◌, min, max, bit_and, bit_or, bit_xor, int_lt, int_le}
+use Rattle.std.specs.Prelude.{ℕ, ◌+◌, ◌-◌, ◌*◌, ◌/◌, ◌%◌, ◌^◌, if◌then◌else◌, List, slice_index, nat_lt, nat_le, ◌==◌}
+use Rattle.std.specs.Prelude.{min, max, bit_and, bit_or, bit_xor, int_lt, int_le}
 use Rattle.am_bv.specs.declared.op.Op.{Op}
-use Rattle.am_bv.specs.declared.op.Op.TheVariants.{Not, Neg, And, Or, Xor, Add, Sub, Mul, Udiv, Urem, Shl, Lshr, Ashr, Eq, Ult, Ule, Slt, Sle, Umin, Umax, Smin, Smax, Ite}
+use Rattle.am_bv.specs.declared.op.Op.TheVariants.{Not, Neg, And, Or, Xor, Add, Sub, Mul, Udiv, Urem, Shl, Lshr, Ashr}
+use Rattle.am_bv.specs.declared.op.Op.TheVariants.{Eq, Ult, Ule, Slt, Sle, Umin, Umax, Smin, Smax, Ite}
 use Rattle.am_bv.specs.Words.{signed, complement, one_if}
 
 -- how many arguments an operator takes

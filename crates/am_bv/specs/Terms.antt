@@ -1,5 +1,6 @@
 -- Terms, each word of them a fold: one step at a node, over what the step gave at its arguments.
-use Rattle.std.specs.Prelude.{ℕ, ◌+◌, ◌^◌, Bool, ◌&&◌, List, length, slice_index, slice_index_or, [], ◌∷◌, sum, nat_lt, ◌==◌}
+use Rattle.std.specs.Prelude.{ℕ, ◌+◌, ◌^◌, Bool, ◌&&◌, List, length, slice_index, slice_index_or, [], ◌∷◌, sum, nat_lt}
+use Rattle.std.specs.Prelude.{◌==◌}
 use Rattle.std.specs.List.{list_all}
 use Rattle.am_bv.specs.declared.term.Term.{Term, fold-Term}
 use Rattle.am_bv.specs.declared.op.Op.{Op}

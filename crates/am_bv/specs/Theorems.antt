@@ -1,5 +1,6 @@
 -- Laws of operators and terms, for all widths, terms and rows of words. The functions of `theorems` prove them.
-use Rattle.std.specs.Prelude.{◌≡◌, ℕ, ◌+◌, ◌^◌, ◌<◌, ◌≤◌, List, length, map, sum_by, slice_index, IsTrue, nat_lt, ◌==◌, ◌&&◌, slice_index_or, All, Contains}
+use Rattle.std.specs.Prelude.{◌≡◌, ℕ, ◌+◌, ◌^◌, ◌<◌, ◌≤◌, List, length, map, sum_by, slice_index, IsTrue, nat_lt, ◌==◌}
+use Rattle.std.specs.Prelude.{◌&&◌, slice_index_or, All, Contains}
 use Rattle.std.specs.List.{list_all}
 use Rattle.am_bv.specs.declared.op.Op.{Op}
 use Rattle.am_bv.specs.declared.term.Term.{Term}
@@ -84,7 +85,8 @@ abbrev pub RenamedField : Type 0
 RenamedField = (fields : List ℕ) (i : ℕ) → rename fields (Field i) ≡ Field (slice_index_or fields i i)
 
 abbrev pub RenamedNode : Type 0
-RenamedNode = (fields : List ℕ) (op : Op) (args : List Term) → rename fields (Node op args) ≡ Node op (map (rename fields) args)
+RenamedNode = (fields : List ℕ) (op : Op) (args : List Term) →
+    rename fields (Node op args) ≡ Node op (map (rename fields) args)
 
 -- a renamed term has the value of the term at the words of the new fields
 abbrev pub RenamedReads : Type 0

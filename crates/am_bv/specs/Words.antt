@@ -1,5 +1,6 @@
 -- Words of w bits as whole numbers from 0 to 2 ^ w - 1.
-use Rattle.std.specs.Prelude.{ℕ, ◌-◌, ◌^◌, ◌<◌, ◌≤◌, Bool, true, false, if◌then◌else◌, List, slice_index, nat_lt, ℤ, pos, ◌-ℤ◌}
+use Rattle.std.specs.Prelude.{ℕ, ◌-◌, ◌^◌, ◌<◌, ◌≤◌, Bool, true, false, if◌then◌else◌, List, slice_index, nat_lt, ℤ}
+use Rattle.std.specs.Prelude.{pos, ◌-ℤ◌}
 
 -- the widths that words may have
 abbrev pub IsWidth : ℕ → Type 0

@@ -47,6 +47,3 @@ pub use op::Op;
 pub use row::Row;
 pub use term::{Term, Terms};
 pub use width::Width;
-
-#[cfg(test)]
-mod tests;

@@ -1,7 +1,13 @@
 //! Laws of terms for the proofs of other crates. Each function does nothing: its clauses are the
 //! laws, and a call brings them into the caller's proof.
 
-ghost use Rattle.am_bv.specs.Theorems.{ConstHasItsWord, FieldHasItsEntry, NodeHasItsOperatorsValue, ConstFitsAsWord, FieldFitsInRow, NodeFitsByArguments, ConstIsOneNode, FieldIsOneNode, NodeCountsItsArguments, ConstWeighsNothing, FieldWeighsNothing, NodeWeighsItsOperators, OperatorsGiveWords, FittingTermsGiveWords, OperatorsAreListed, FitsLongerRows, SameAtSameFields, RenamedConst, RenamedField, RenamedNode, RenamedReads, RenamedFits, RenamedNodes, RenamedWeighs};
+ghost use Rattle.am_bv.specs.Theorems.{ConstHasItsWord, FieldHasItsEntry, NodeHasItsOperatorsValue, ConstFitsAsWord};
+ghost use Rattle.am_bv.specs.Theorems.{FieldFitsInRow, NodeFitsByArguments, ConstIsOneNode, FieldIsOneNode};
+ghost use Rattle.am_bv.specs.Theorems.{NodeCountsItsArguments, ConstWeighsNothing, FieldWeighsNothing};
+ghost use Rattle.am_bv.specs.Theorems.{NodeWeighsItsOperators, OperatorsGiveWords, FittingTermsGiveWords};
+ghost use Rattle.am_bv.specs.Theorems.{OperatorsAreListed, FitsLongerRows, SameAtSameFields, RenamedConst};
+ghost use Rattle.am_bv.specs.Theorems.{RenamedField, RenamedNode, RenamedReads, RenamedFits, RenamedNodes};
+ghost use Rattle.am_bv.specs.Theorems.{RenamedWeighs};
 
 /// What the value of a term is at each of its kinds.
 pub fn value_by_kind()

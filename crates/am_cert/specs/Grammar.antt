@@ -1,6 +1,6 @@
 -- The grammar of a certificate's text behind its problem, line by line.
-use Rattle.std.specs.Prelude.{◌≡◌, ℕ, ◌+◌, ◌-◌, ◌*◌, ◌^◌, ◌≤◌, ◌<◌, Bool, false, ◌&&◌, ◌||◌, nat_le, nat_lt, List, [], ◌∷◌}
-use Rattle.std.specs.Prelude.{length, min, Result, Ok, Err, bytes_eq, codes, decimal, if◌then◌else◌, IsTrue, ◌⊎◌}
+use Rattle.std.specs.Prelude.{ℕ, ◌+◌, ◌-◌, ◌*◌, ◌^◌, Bool, false, ◌||◌, nat_lt, List, [], ◌∷◌}
+use Rattle.std.specs.Prelude.{length, min, Result, Ok, Err, bytes_eq, codes, if◌then◌else◌, ◌⊎◌}
 use Rattle.std.proofs.Common.{inl, inr}
 use Rattle.am_bv.specs.declared.term.Term.{Term}
 use Rattle.am_chain.specs.declared.chain.Chain.{Chain}
@@ -16,7 +16,8 @@ use Rattle.am_query.specs.declared.outcome.Outcome.TheVariants.{Absent, Best, Co
 use Rattle.am_query.specs.declared.turn.Turn.{Turn}
 use Rattle.am_query.specs.declared.turn.Turn.TheVariants.{Negative as NegativeTurn, Positive as PositiveTurn}
 use Rattle.am_syntax.specs.Numerals.{is_digits}
-use Rattle.am_syntax.specs.Pieces.{◌▹◌, Piece, below, choice, key, keyed, next_is, number, one_more, repeat, seen_as, times, token}
+use Rattle.am_syntax.specs.Pieces.{◌▹◌, Piece, below, choice, key, keyed, next_is, number, one_more, repeat, seen_as}
+use Rattle.am_syntax.specs.Pieces.{times, token}
 use Rattle.am_syntax.specs.Readers.{Word, Words}
 use Rattle.am_syntax.specs.Terms.{term}
 use Rattle.am_syntax.specs.declared.limits.Letter.TheVariants.{F}

@@ -96,8 +96,8 @@ CanonicalCertificatesAreRead = (c : Certificate) → IsCertificate c → Reads (
 
 -- ---- which outcomes can be written
 
--- a valid trace of as many turns as are allowed, transformers, and logs that are refutations, or valid chains, over the
--- formulas of their queries, of as many chains as are allowed
+-- a valid trace of no more turns than are allowed, or of one more where they are spent; transformers; and logs that are
+-- refutations over the formulas of their queries, of no more chains than are allowed, or exactly as many valid chains
 abbrev pub IsWritable : Problem → Outcome → Type 0
 IsWritable p (Best t trace sound_log best_log) =
     IsTransformerOf p t × IsTrace p trace × (length trace ≤ p.turns)

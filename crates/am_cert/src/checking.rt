@@ -45,7 +45,7 @@ impl From<AllocError> for CheckFail {
 ///
 /// # Errors
 ///
-/// `Rejected`: a condition of acceptance doesn't hold, with the first fault.
+/// `Rejected`: a condition of acceptance doesn't hold, with the first fault; `NoMemory`.
 pub fn check(alloc: Global, c: &Certificate) -> Result<(), CheckFail>
     ensures accepted { OnOk result (IsAcceptable c.now) }
     ensures right { OnOk result (IsRight c.now.problem c.now.outcome) }
@@ -74,8 +74,8 @@ fn verdict(alloc: Global, c: &Certificate) -> Result<(), CheckFail>
     }
 }
 
-/// Whether the terms are best: they stand in the language, the examples are true of them, and the logs refute that
-/// they aren't sound, and that there are closer ones.
+/// Whether the terms are best: they stand in the language, the positive examples are true, the terms exclude the
+/// negative ones, and the logs refute that the terms aren't sound, and that there are closer ones.
 fn best(
     alloc: Global,
     c: &Certificate,

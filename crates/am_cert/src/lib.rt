@@ -1,10 +1,11 @@
 //! Certificates: what a synthesis found, with what shows it, as a text that anyone can check.
 //!
-//! A [`Certificate`] has a problem and an [`am_query::Outcome`] of its synthesis: a transformer with two logs that refute
-//! that it isn't sound and that there is a closer one; or that there is none, with one log; or the turns and the derived
-//! clauses where a budget was spent. [`read_certificate`] reads one from a text, [`print_certificate`] writes it, and
-//! [`check`] accepts it by its contents alone. [`certificate_at`] reads one that stands in a longer text: a
-//! [`CertificateDraft`] settles to it when the whole text was read. A [`Feed`] takes the text in pieces.
+//! A [`Certificate`] has a problem and an [`am_query::Outcome`] of its synthesis: a transformer with two logs
+//! that refute that it isn't sound and that there is a closer one; or that there is none, with one log; or the
+//! turns and the derived clauses where a budget was spent. [`read_certificate`] reads one from a text,
+//! [`print_certificate`] writes it, and [`check`] accepts it by its contents alone. [`certificate_at`] reads one
+//! that stands in a longer text: a [`CertificateDraft`] settles to it when the whole text was read. A [`Feed`]
+//! takes the text in pieces.
 //!
 //! ```text
 //! let c = read_certificate(alloc, text)?; // or the first refusal, with its place
@@ -13,13 +14,14 @@
 //!
 //! # What is proved
 //!
-//! [`read_certificate`] answers the certificate whose words the text has, by `specs/Grammar.antt` and
-//! `specs/Texts.antt`, or else the text's first refusal; each text has exactly one of the two. [`print_certificate`]
-//! appends exactly the canonical text, `specs/Printing.antt`, and what was printed reads back. [`check`] is Ok exactly
-//! where the outcome is accepted, by the conditions of `am_query/specs/Acceptance.antt` over the formulas of the
-//! certificate's version, and then **the term is best, or no transformer of the problem is sound**; else it answers the
-//! first fault. [`Feed::end`] answers for every cutting of a text into pieces what reading and checking the whole answers.
-//! A text of an accepted certificate gets no other verdict.
+//! Each call may say that there is no memory. Else [`read_certificate`] answers the certificate whose words the text
+//! has, by `specs/Grammar.antt` and `specs/Texts.antt`, or the text's first refusal; each text of fewer than 2^32
+//! bytes has exactly one of the two. [`print_certificate`] appends exactly the canonical text, `specs/Printing.antt`,
+//! and what was printed reads back. [`check`] is Ok exactly where the outcome is accepted, by the conditions of
+//! `am_query/specs/Acceptance.antt` over the formulas of the certificate's version, and then **the term is best, or no
+//! transformer of the problem is sound**; else it answers the first fault. [`Feed::end`] answers for every cutting of
+//! a text into pieces what reading and checking the whole answers. A text of an accepted certificate gets no verdict
+//! but that it is accepted.
 #![tactic(auto)]
 
 mod answers;

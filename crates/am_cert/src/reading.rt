@@ -117,7 +117,7 @@ fn read_all(alloc: Global, text: &[u8]) -> Result<Certificate, ReadError>
 ///
 /// # Errors
 ///
-/// `Refused`: the text is no certificate's, with the first refusal.
+/// `Refused`: the text is no certificate's, with the first refusal; `NoMemory`.
 pub fn read_certificate(alloc: Global, text: &[u8]) -> Result<Certificate, ReadError>
     requires { length text.now < 2 ^ 32 }
     // What is read is the text's certificate.

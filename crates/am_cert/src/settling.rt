@@ -15,7 +15,7 @@ impl<'a> CertificateDraft<'a> {
     /// # Errors
     ///
     /// `Refused` with `Undefined`, where a name of the problem has no rule; else with `Slots`, where its grammar has
-    /// more slots than allowed; else with `Load`, where its load is greater than allowed.
+    /// more slots than allowed; else with `Load`, where its load is greater than allowed. `NoMemory`.
     pub fn settle(self, alloc: Global) -> Result<Certificate, ReadError>
         ensures { Answers (λ c. c) result (settled (seen_draft self.entry)) }
     {

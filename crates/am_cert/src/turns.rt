@@ -124,7 +124,7 @@ pub(crate) fn negative_count(seen: &[Turn]) -> u64
     behind
 }
 
-/// Whether one more may stand here.
+/// Refuses the next token with `Count`, where no more may stand here.
 fn expect_room(text: &mut Cursor<'_>, may: bool) -> Result<(), Cause>
     ensures { Gives (λ _. tt) result text.old text.new (room may) }
 {

@@ -1,5 +1,6 @@
 -- Logs without the chains that their last one doesn't need.
-use Rattle.std.specs.Prelude.{ℕ, zero, suc, All, ◌≡◌, ◌+◌, ◌-◌, ◌<◌, ◌↔◌, ◌⊎◌, Bool, List, [], ◌∷◌, Contains, length, map, Some, slice_get, IsTrue, if◌then◌else◌, nat_lt}
+use Rattle.std.specs.Prelude.{ℕ, zero, suc, All, ◌≡◌, ◌+◌, ◌-◌, ◌<◌, ◌↔◌, ◌⊎◌, Bool, List, [], ◌∷◌, Contains, length}
+use Rattle.std.specs.Prelude.{map, Some, slice_get, IsTrue, if◌then◌else◌, nat_lt}
 use Rattle.am_chain.specs.declared.chain.Step.{Step}
 use Rattle.am_chain.specs.declared.chain.Chain.{Chain}
 

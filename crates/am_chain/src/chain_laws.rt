@@ -1,7 +1,8 @@
 //! Laws of resolvents, chains and logs that a solver and a reader of logs rest on. Each function
 //! does nothing: its contract is a law, which is proved.
 
-ghost use Rattle.am_chain.specs.ChainLaws.{PivotsAreOpposite, ResolventsHaveTheOthers, StepsGrow, ChainsStayBelow, LogsStayBelow, FirstFaultsStand};
+ghost use Rattle.am_chain.specs.ChainLaws.{PivotsAreOpposite, ResolventsHaveTheOthers, StepsGrow, ChainsStayBelow};
+ghost use Rattle.am_chain.specs.ChainLaws.{LogsStayBelow, FirstFaultsStand};
 ghost use Rattle.am_chain.specs.Trimmed.{TrimmedChainsAreTheLogs};
 
 /// Clauses in order have a pivot on a variable exactly where one of its literals stands alone in

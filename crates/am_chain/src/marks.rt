@@ -1,7 +1,8 @@
 //! The current clause of a chain, as a set of literals. A resolution takes one literal out and puts
 //! those of another clause in, so it looks at the other clause alone.
 
-ghost use Rattle.std.specs.Prelude.{◌≡◌, ℕ, ◌+◌, ◌-◌, ◌^◌, ◌<◌, ◌≤◌, ◌↔◌, ◌⊎◌, ◌∷◌, [], ◌++◌, List, All, Contains, length, true, false, ◌==◌, if◌then◌else◌, IsTrue, IfOk, OnOk, OnErr, MatchOption};
+ghost use Rattle.std.specs.Prelude.{◌≡◌, ℕ, ◌+◌, ◌-◌, ◌^◌, ◌<◌, ◌≤◌, ◌↔◌, ◌⊎◌, ◌∷◌, [], ◌++◌, List, All, Contains};
+ghost use Rattle.std.specs.Prelude.{length, true, false, ◌==◌, if◌then◌else◌, IsTrue, IfOk, OnOk, OnErr, MatchOption};
 ghost use Rattle.std.specs.List.Sorted.{IsStrictlyIncreasing};
 ghost use Rattle.am_lit.specs.Literal.{opposite_of, variable_of};
 ghost use Rattle.am_chain.specs.Resolvent.{has_pivot, resolvent};
@@ -85,7 +86,8 @@ impl Marks {
     /// Appends the set's clause to a store.
     pub fn store(&mut self, clauses: &mut Clauses) -> Result<(), AllocError>
         requires { length clauses.old < 2 ^ 32 - 1 }
-        ensures ok { OnOk result ((c : List ℕ) → AreMarksOf c self.old → clauses.new ≡ clauses.old ++ c ∷ []) }
+        ensures ok { OnOk result ((c : List ℕ) → AreMarksOf c self.old →
+            clauses.new ≡ clauses.old ++ c ∷ []) }
         ensures err { OnErr result (clauses.new ≡ clauses.old) }
     {
         put_in_order(&mut self.touched, self.marks.as_slice());
@@ -120,7 +122,8 @@ impl Marks {
         ensures alone { IfOk result (λ alone. IsTrue alone
             ↔ (Contains clause.now wanted × (¬ (Contains clause.now (opposite_of wanted))))) }
         ensures others { IfOk result (λ alone. IsTrue alone → (l : ℕ) → IsTrue (mark_at self.new l)
-            ↔ (IsTrue (mark_at self.old l) ⊎ (Contains clause.now l × (¬ (variable_of l ≡ variable_of wanted))))) }
+            ↔ (IsTrue (mark_at self.old l)
+            ⊎ (Contains clause.now l × (¬ (variable_of l ≡ variable_of wanted))))) }
     {
         let mut found = false;
         for l in clause {

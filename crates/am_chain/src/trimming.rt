@@ -1,9 +1,11 @@
 //! Logs without the chains that their last one doesn't need.
 
-ghost use Rattle.std.specs.Prelude.{◌≡◌, ℕ, ◌+◌, ◌-◌, ◌^◌, ◌<◌, ◌≤◌, ◌↔◌, ◌⊎◌, List, length, slice_get, slice_index, Some, IsTrue, IfOk, if◌then◌else◌, nat_lt};
+ghost use Rattle.std.specs.Prelude.{◌≡◌, ℕ, ◌+◌, ◌-◌, ◌^◌, ◌<◌, ◌≤◌, ◌↔◌, ◌⊎◌, List, length, slice_get, slice_index};
+ghost use Rattle.std.specs.Prelude.{Some, IsTrue, IfOk, if◌then◌else◌, nat_lt};
 ghost use Rattle.am_chain.specs.declared.chain.Chain.{Chain};
 ghost use Rattle.am_chain.specs.Replay.{Refutes};
-ghost use Rattle.am_chain.specs.Trimmed.{AreNeeded, IsTrimmed, Names, kept_below, kept_chains, moved_chain, moved_number};
+ghost use Rattle.am_chain.specs.Trimmed.{AreNeeded, IsTrimmed, Names, kept_below, kept_chains, moved_chain};
+ghost use Rattle.am_chain.specs.Trimmed.{moved_number};
 ghost use Rattle.am_chain.specs.inside.Marks.{mark_at};
 ghost use Rattle.am_chain.specs.inside.Numbers.{AreNeededFrom, NamesBelow, renumbered};
 

@@ -33,7 +33,8 @@ abbrev pub Excludes : Question → List Term → Negative → Type 0
 Excludes q terms e = ¬ IsMember q (results q terms e.inputs) e.word
 
 -- a transformer covers all positive examples, and excludes all negative ones
-pub record Satisfies (q : Question) (terms : List Term) (positives : List Positive) (negatives : List Negative) : Type 0 where
+pub record Satisfies (q : Question) (terms : List Term) (positives : List Positive) (negatives : List Negative)
+    : Type 0 where
   pub covers : All (Covers q terms) positives
   pub excludes : All (Excludes q terms) negatives
 

@@ -1,5 +1,6 @@
 -- The laws of an abstract domain, over words of every width.
-use Rattle.std.specs.Prelude.{◌≢◌, ℕ, ◌+◌, ◌*◌, ◌^◌, ◌<◌, ◌≤◌, ◌↔◌, Bool, not, ◌==◌, List, [], ◌∷◌, ◌++◌, IsTrue, MatchOption, take, slice_index}
+use Rattle.std.specs.Prelude.{◌≢◌, ℕ, ◌+◌, ◌*◌, ◌^◌, ◌<◌, ◌≤◌, ◌↔◌, Bool, not, ◌==◌, List, [], ◌∷◌, ◌++◌, IsTrue}
+use Rattle.std.specs.Prelude.{MatchOption, take, slice_index}
 use Rattle.std.specs.declared.option.Option.{Option}
 use Rattle.am_bv.specs.Words.{IsWidth}
 use Rattle.am_bv.specs.Terms.{val, fits, nodes}
@@ -18,7 +19,8 @@ HasTop m top = (w : ℕ) → IsWidth w → IsAbstract m w (top w) × ((c : ℕ) 
 
 -- a word's value has the word
 abbrev pub HoldsWords : Meaning → (ℕ → ℕ → List ℕ) → Type 0
-HoldsWords m of_word = (w : ℕ) → IsWidth w → (c : ℕ) → c < 2 ^ w → IsAbstract m w (of_word w c) × m.Member w (of_word w c) c
+HoldsWords m of_word =
+    (w : ℕ) → IsWidth w → (c : ℕ) → c < 2 ^ w → IsAbstract m w (of_word w c) × m.Member w (of_word w c) c
 
 -- a value that has the members of both
 pub record IsJoin (m : Meaning) (w : ℕ) (a b joined : List ℕ) : Type 0 where
@@ -28,7 +30,8 @@ pub record IsJoin (m : Meaning) (w : ℕ) (a b joined : List ℕ) : Type 0 where
 
 -- the join of two values has the members of both
 abbrev pub JoinsAbove : Meaning → (ℕ → List ℕ → List ℕ → List ℕ) → Type 0
-JoinsAbove m join = (w : ℕ) → IsWidth w → (a b : List ℕ) → IsAbstract m w a → IsAbstract m w b → IsJoin m w a b (join w a b)
+JoinsAbove m join =
+    (w : ℕ) → IsWidth w → (a b : List ℕ) → IsAbstract m w a → IsAbstract m w b → IsJoin m w a b (join w a b)
 
 -- the rank is bounded, and a join that changes a value has a smaller one
 pub record Descends (m : Meaning) (join : ℕ → List ℕ → List ℕ → List ℕ) (rank : ℕ → List ℕ → ℕ) : Type 0 where
@@ -43,8 +46,8 @@ Tidies m tidy =
     MatchOption (tidy w raw) ((c : ℕ) → c < 2 ^ w → ¬ m.Member w raw c)
     (λ a. IsAbstract m w a × ((c : ℕ) → c < 2 ^ w → m.Member w raw c → m.Member w a c))
 
--- The indicator of a fact about rows of so many words: a term that fits such rows and isn't 0 exactly where the fact holds.
--- A domain with so many fields bounds its nodes.
+-- The indicator of a fact about rows of so many words: a term that fits such rows and isn't 0 exactly where the fact
+-- holds. A domain with so many fields bounds its nodes.
 pub record IsIndicator (w fields row : ℕ) (t : Term) (Holds : List ℕ → Type 0) : Type 0 where
   pub fit : IsTrue (fits w row t)
   pub small : nodes t ≤ 16 ^ fields
@@ -58,7 +61,8 @@ TellsValidity m valid_term = (w : ℕ) → IsWidth w → IsIndicator w m.fields 
 abbrev pub TellsMembership : Meaning → (ℕ → Term) → Type 0
 TellsMembership m member_term =
     (w : ℕ) → IsWidth w →
-    IsIndicator w m.fields (m.fields + 1) (member_term w) (λ env. m.Member w (take m.fields env) (slice_index env m.fields))
+    IsIndicator w m.fields (m.fields + 1) (member_term w)
+    (λ env. m.Member w (take m.fields env) (slice_index env m.fields))
 
 -- whether a word is a member of a tuple, as the term for membership tells it
 abbrev pub is_member : ℕ → Term → List ℕ → ℕ → Bool

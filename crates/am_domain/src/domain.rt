@@ -3,7 +3,8 @@
 ghost use Rattle.std.specs.Prelude.{◌≡◌, ℕ, List, ◌<◌, ◌≤◌, ◌^◌, ◌↔◌, IsTrue, IfOk};
 ghost use Rattle.std.specs.declared.option.Option.{Option};
 ghost use Rattle.am_bv.specs.declared.term.Term.{Term};
-ghost use Rattle.am_domain.specs.Laws.{Descends, HasMembers, HasTop, HoldsWords, JoinsAbove, TellsMembership, TellsValidity, Tidies};
+ghost use Rattle.am_domain.specs.Laws.{Descends, HasMembers, HasTop, HoldsWords, JoinsAbove, TellsMembership};
+ghost use Rattle.am_domain.specs.Laws.{TellsValidity, Tidies};
 ghost use Rattle.am_domain.specs.Meaning.{IsAbstract, Meaning};
 ghost use Rattle.am_domain.specs.Tuple.{IsTuple};
 

@@ -35,6 +35,3 @@ mod fields;
 pub use anchored::Anchored;
 pub use domain::Domain;
 pub use fields::Fields;
-
-#[cfg(test)]
-mod tests;

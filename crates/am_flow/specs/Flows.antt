@@ -1,5 +1,5 @@
 -- Flows: small programs over words, and which operations they can be run with.
-use Rattle.std.specs.Prelude.{ℕ, ◌≡◌, ◌≢◌, ◌≤◌, ◌<◌, ◌^◌, true, Bool, List, [], All, Some, length, slice_get, take}
+use Rattle.std.specs.Prelude.{ℕ, ◌≡◌, ◌≢◌, ◌≤◌, ◌<◌, ◌^◌, true, List, [], All, Some, length, slice_get, take}
 use Rattle.am_bv.specs.Words.{IsWidth}
 use Rattle.am_bv.specs.declared.term.Term.{Term}
 use Rattle.am_problem.specs.Examples.{IsTransformer}

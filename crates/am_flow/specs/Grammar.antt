@@ -4,7 +4,8 @@ use Rattle.std.proofs.Common.{inl, inr}
 use Rattle.am_problem.specs.Grammar.{domain}
 use Rattle.am_problem.specs.declared.kind.Kind.{Kind}
 use Rattle.am_syntax.specs.Numerals.{is_digits}
-use Rattle.am_syntax.specs.Pieces.{◌▹◌, Piece, below, choice, closed, key, keyed, next_is, number, one_more, repeat, seen_as}
+use Rattle.am_syntax.specs.Pieces.{◌▹◌, Piece, below, choice, closed, key, keyed, next_is, number, one_more, repeat}
+use Rattle.am_syntax.specs.Pieces.{seen_as}
 use Rattle.am_syntax.specs.Readers.{Words}
 use Rattle.am_flow.specs.Flows.{Flow}
 use Rattle.am_flow.specs.declared.flow.Action.{Action}

@@ -2,10 +2,8 @@
 use Rattle.std.specs.Prelude.{ℕ, zero, suc, ◌≡◌, ◌+◌, ◌*◌, ◌^◌, ◌-◌, ◌≤◌, ◌==◌, List, [], ◌∷◌, Option, None, Some}
 use Rattle.std.specs.Prelude.{filter, map, replicate, slice_get, slice_index_or, slice_set}
 use Rattle.std.specs.Option.{option_map}
-use Rattle.am_bv.specs.Terms.{val}
-use Rattle.am_bv.specs.declared.term.Term.{Term}
 use Rattle.am_domain.specs.Question.{results}
-use Rattle.am_problem.specs.Kinds.{Abstraction, abstraction_of, fields_of}
+use Rattle.am_problem.specs.Kinds.{abstraction_of, fields_of}
 use Rattle.am_problem.specs.Problem.{question_of}
 use Rattle.am_flow.specs.Flows.{Flow, Operation}
 use Rattle.am_flow.specs.declared.flow.Action.{Action}

@@ -1,5 +1,5 @@
 -- Texts of flows and tables.
-use Rattle.std.specs.Prelude.{◌≡◌, ℕ, suc, ◌<◌, ◌^◌, List, [], ◌∷◌, ◌++◌, None, Some, codes, decimal}
+use Rattle.std.specs.Prelude.{ℕ, suc, ◌<◌, ◌^◌, List, [], ◌∷◌, ◌++◌, None, Some, codes, decimal}
 use Rattle.am_syntax.specs.Exact.{IsExact, always}
 use Rattle.am_flow.specs.Flows.{Flow, IsFlow}
 use Rattle.am_flow.specs.Grammar.{flow}

@@ -68,7 +68,8 @@ impl Flow {
     pub fn matches(&self, signatures: &[Signature]) -> Result<(), Refusal>
         requires { length signatures.now < 2 ^ 32 }
         ensures fit { OnOk result (AllFit self.now signatures.now) }
-        ensures first { IfErr result (λ r. (i : ℕ) × (r ≡ Mismatch i) × IsFirstMisfit self.now signatures.now i) }
+        ensures first { IfErr result (λ r. (i : ℕ) × (r ≡ Mismatch i)
+            × IsFirstMisfit self.now signatures.now i) }
     {
         'signatures: for (i, signature) in signatures.iter().enumerate() {
             if !signature.fits(self, i as u32) {

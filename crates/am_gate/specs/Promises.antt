@@ -18,7 +18,8 @@ pub record MakesGates {A : Type 0} (m : Step A) (k : ℕ) (Q : ℕ → A → Typ
   pub given : Q (past p (m p).events).next (m p).value
 
 -- a call gave and made what the step does, which is at most k gates, and what it gave is as Q says
-pub record Gives {A : Type 0} (m : Step A) (k : ℕ) (Q : ℕ → A → Type 0) (old : Net) (result : A) (new : Net) : Type 0 where
+pub record Gives {A : Type 0} (m : Step A) (k : ℕ) (Q : ℕ → A → Type 0) (old : Net) (result : A) (new : Net)
+    : Type 0 where
   pub follows : Follows m old result new
   pub given : Q new.vars result
   pub grows : Grows k old new

@@ -1,11 +1,13 @@
 //! Circuits, and the calls that make them.
 
-ghost use Rattle.std.specs.Prelude.{◌≡◌, ℕ, ◌<◌, ◌↔◌, Bool, true, false, List, [], ◌∷◌, All, IsTrue, Option, None, if◌then◌else◌, IfOk, OnOk, OnErr};
+ghost use Rattle.std.specs.Prelude.{◌≡◌, ℕ, ◌<◌, ◌↔◌, Bool, true, false, List, [], ◌∷◌, All, IsTrue, Option, None};
+ghost use Rattle.std.specs.Prelude.{if◌then◌else◌, IfOk, OnOk, OnErr};
 ghost use Rattle.std.specs.List.Sorted.{IsStrictlyIncreasing};
 ghost use Rattle.am_lit.specs.Literal.{literal_of};
 ghost use Rattle.am_lit.specs.Truth.{Satisfies};
 ghost use Rattle.am_lit.specs.UnitRow.{Determines};
-ghost use Rattle.am_gate.specs.Circuit.{Net, Event, Event.Input, Event.And, Event.Xor, Event.Mux, start, truth, added, built, IsLiteral, HasInputs, HasRoom, Grows, Begins};
+ghost use Rattle.am_gate.specs.Circuit.{Net, Event, Event.Input, Event.And, Event.Xor, Event.Mux, start, truth, added};
+ghost use Rattle.am_gate.specs.Circuit.{built, IsLiteral, HasInputs, HasRoom, Grows, Begins};
 ghost use Rattle.am_gate.specs.Value.{Meets};
 ghost use Rattle.am_gate.specs.Build.{ask, tell, Follows};
 

@@ -41,6 +41,3 @@ mod fold;
 mod sorted;
 
 pub use circuit::Circuit;
-
-#[cfg(test)]
-mod tests;

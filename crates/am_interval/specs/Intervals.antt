@@ -1,6 +1,7 @@
--- Intervals of words. A word of w bits is read as a whole number, unsigned or signed, and an interval is the list of its
--- least and its greatest word in the order of these numbers.
-use Rattle.std.specs.Prelude.{ℕ, ◌-◌, ◌^◌, if◌then◌else◌, List, [], ◌∷◌, slice_index, Some, None, ℤ, pos, ◌≤ℤ◌, int_lt, int_le}
+-- Intervals of words. A word of w bits is read as a whole number, unsigned or signed, and an interval is the list of
+-- its least and its greatest word in the order of these numbers.
+use Rattle.std.specs.Prelude.{ℕ, ◌-◌, ◌^◌, if◌then◌else◌, List, [], ◌∷◌, slice_index, Some, None, ℤ, pos, ◌≤ℤ◌, int_lt}
+use Rattle.std.specs.Prelude.{int_le}
 use Rattle.std.specs.Int.{int_gap}
 use Rattle.std.specs.declared.option.Option.{Option}
 use Rattle.am_domain.specs.Meaning.{Meaning}

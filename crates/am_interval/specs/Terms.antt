@@ -1,5 +1,5 @@
--- The terms for intervals, over the least word f0, the greatest word f1, and a word f2, by an operator that tells whether a
--- word is at most another.
+-- The terms for intervals, over the least word f0, the greatest word f1, and a word f2, by an operator that tells
+-- whether a word is at most another.
 use Rattle.am_bv.specs.Terms.{binary}
 use Rattle.am_bv.specs.declared.op.Op.{Op}
 use Rattle.am_bv.specs.declared.op.Op.TheVariants.{And}

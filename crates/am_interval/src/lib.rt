@@ -29,6 +29,3 @@ mod unsigned;
 
 pub use signed::Signed;
 pub use unsigned::Unsigned;
-
-#[cfg(test)]
-mod tests;

@@ -2,7 +2,8 @@
 
 ghost use Rattle.std.proofs.Common.{lit≤, refl};
 ghost use Rattle.am_bv.specs.declared.op.Op.TheVariants.{Ule};
-ghost use Rattle.am_interval.specs.Intervals.{intervals, greatest, hull, least, point, tidied, unsigned, unsigned_top, words_outside};
+ghost use Rattle.am_interval.specs.Intervals.{intervals, greatest, hull, least, point, tidied, unsigned, unsigned_top};
+ghost use Rattle.am_interval.specs.Intervals.{words_outside};
 ghost use Rattle.am_interval.specs.Terms.{between_term, order_term};
 ghost use Rattle.am_interval.specs.lemmas.Laws as laws;
 ghost use Rattle.am_interval.specs.lemmas.Numbers.{unsigned_top-IsTop};

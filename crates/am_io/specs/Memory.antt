@@ -61,7 +61,9 @@ source_code = code_by (List ℕ × (ℕ × (List ℕ × (ℕ × ℕ))))
 
 abbrev pub sink_code : Coded SinkState
 sink_code = code_by (List ℕ × (ℕ × (ℕ × (List ℕ × (ℕ × ℕ)))))
-    (coded× (coded_list coded_ℕ) (coded× coded_ℕ (coded× coded_ℕ (coded× (coded_list coded_ℕ) (coded× coded_ℕ coded_ℕ)))))
+    (coded× (coded_list coded_ℕ)
+    (coded× coded_ℕ (coded× coded_ℕ (coded× (coded_list coded_ℕ) (coded× coded_ℕ coded_ℕ)))))
     (λ s. (s.taken, (s.room, (s.step, (s.failing, (s.calls, s.faults))))))
-    (λ p. record { taken = p.0; room = p.1.0; step = p.1.1.0; failing = p.1.1.1.0; calls = p.1.1.1.1.0; faults = p.1.1.1.1.1 })
+    (λ p. record
+    { taken = p.0; room = p.1.0; step = p.1.1.0; failing = p.1.1.1.0; calls = p.1.1.1.1.0; faults = p.1.1.1.1.1 })
     (λ _. refl)

@@ -46,6 +46,3 @@ pub use reading::{ReadEnd, read_all};
 pub use standard::{StdSink, StdSource};
 pub use streams::{Failed, Sink, Source};
 pub use writing::{WriteFault, write_all};
-
-#[cfg(test)]
-mod tests;

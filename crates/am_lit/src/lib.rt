@@ -45,6 +45,3 @@ pub use assignment::{Assignment, Values};
 pub use clauses::Clauses;
 pub use formula::Formula;
 pub use lit::Lit;
-
-#[cfg(test)]
-mod tests;

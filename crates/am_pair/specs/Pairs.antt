@@ -53,7 +53,8 @@ hull_of_words of_word join w [] = None
 hull_of_words of_word join w (c ∷ words) = Some (c ∷ last_of c words ∷ join_of_words of_word join w c words)
 
 -- the hull of the common words of two tidied parts; nothing where one of them is nothing
-abbrev pub tidy_parts : (ℕ → ℕ → List ℕ) → (ℕ → List ℕ → List ℕ → List ℕ) → (ℕ → Term) → ℕ → Option (List ℕ) → Option (List ℕ) → Option (List ℕ)
+abbrev pub tidy_parts : (ℕ → ℕ → List ℕ) → (ℕ → List ℕ → List ℕ → List ℕ) → (ℕ → Term) → ℕ →
+    Option (List ℕ) → Option (List ℕ) → Option (List ℕ)
 tidy_parts of_word join member_term w None y = None
 tidy_parts of_word join member_term w (Some x) None = None
 tidy_parts of_word join member_term w (Some x) (Some y) = hull_of_words of_word join w (common w (member_term w) x y)
@@ -65,9 +66,12 @@ second_fields count word = range_with_len 2 count ++ word ∷ []
 -- the first part is valid, the second is, and the first part's field 0 is a member of the second
 abbrev pub pair_valid_term : Term → Term → Term → ℕ → Term
 pair_valid_term valid_a valid_b member_b count =
-    ternary Ite valid_a (ternary Ite (rename (range_with_len 2 count) valid_b) (rename (second_fields count 0) member_b) (Const 0)) (Const 0)
+    ternary Ite valid_a
+    (ternary Ite (rename (range_with_len 2 count) valid_b) (rename (second_fields count 0) member_b) (Const 0))
+    (Const 0)
 
 -- the word after the pair's fields is a member of both parts
 abbrev pub pair_member_term : Term → Term → ℕ → Term
 pair_member_term member_a member_b count =
-    ternary Ite (rename (0 ∷ 1 ∷ (2 + count) ∷ []) member_a) (rename (second_fields count (2 + count)) member_b) (Const 0)
+    ternary Ite (rename (0 ∷ 1 ∷ (2 + count) ∷ []) member_a)
+    (rename (second_fields count (2 + count)) member_b) (Const 0)

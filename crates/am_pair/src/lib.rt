@@ -26,6 +26,3 @@ mod parts;
 pub mod theorems;
 
 pub use pair::Pair;
-
-#[cfg(test)]
-mod tests;

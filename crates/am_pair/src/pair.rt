@@ -3,7 +3,8 @@
 ghost use Rattle.std.specs.Prelude.{◌≡◌, ◌^◌, ◌<◌, ◌≤◌, ◌+◌, ◌++◌, length, slice_index};
 ghost use Rattle.std.specs.Option.{ForSome};
 ghost use Rattle.am_domain.specs.Meaning.{IsAbstract};
-ghost use Rattle.am_pair.specs.Pairs.{common, hull_of_words, pair_join, pair_member_term, pair_rank, pair_valid_term, pairs, second, first, tidy_parts};
+ghost use Rattle.am_pair.specs.Pairs.{common, hull_of_words, pair_join, pair_member_term, pair_rank, pair_valid_term};
+ghost use Rattle.am_pair.specs.Pairs.{pairs, second, first, tidy_parts};
 ghost use Rattle.am_pair.specs.inside.Hulls.{hull_with};
 ghost use Rattle.am_pair.specs.lemmas.PairLaws as laws;
 

@@ -11,7 +11,8 @@ use Rattle.am_tree.specs.Slots.{layout_of}
 use Rattle.am_tree.specs.Trees.{Rules}
 use Rattle.am_tree.specs.declared.grammar.Production.{Production}
 use Rattle.am_tree.specs.declared.grammar.Production.TheVariants.{Leaf, Node}
-use Rattle.am_problem.specs.declared.limits.TheConstants.{MOST_INPUTS, MOST_NODES, MOST_TURNS, MOST_CONFLICTS, MOST_SLOTS, MOST_LOAD}
+use Rattle.am_problem.specs.declared.limits.TheConstants.{MOST_INPUTS, MOST_NODES, MOST_TURNS, MOST_CONFLICTS}
+use Rattle.am_problem.specs.declared.limits.TheConstants.{MOST_SLOTS, MOST_LOAD}
 use Rattle.am_problem.specs.Kinds.{fields_of}
 use Rattle.am_problem.specs.Loads.{load_of}
 use Rattle.am_problem.specs.Problem.{Problem}

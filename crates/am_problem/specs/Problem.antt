@@ -10,9 +10,9 @@ use Rattle.am_tree.specs.declared.tree.Tree.{Tree}
 use Rattle.am_problem.specs.declared.kind.Kind.{Kind}
 use Rattle.am_problem.specs.Kinds.{meaning_of}
 
--- The operation and the assumption under which it is used, over the words of the inputs; a domain; the nonterminals' names and
--- their productions, over the fields of the inputs; a start for each field of the result; the depth of trees; and what may be
--- spent.
+-- The operation and the assumption under which it is used, over the words of the inputs; a domain; the nonterminals'
+-- names and their productions, over the fields of the inputs; a start for each field of the result; the depth of
+-- trees; and what may be spent.
 pub record Problem : Type 0 where
   pub width : ℕ
   pub inputs : ℕ

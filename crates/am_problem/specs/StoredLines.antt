@@ -40,4 +40,10 @@ abbrev pub seen_budgets : StoredBudgets → Budgets
 seen_budgets b = record { depth = b.depth; turns = b.turns; conflicts = b.conflicts }
 
 abbrev pub seen_lines : StoredLines → Lines
-seen_lines d = record { header = seen_header d.header; kind = d.kind; starts = seen_names d.starts; budgets = seen_budgets d.budgets; rules = seen_rules d.rules }
+seen_lines d = record {
+  header = seen_header d.header;
+  kind = d.kind;
+  starts = seen_names d.starts;
+  budgets = seen_budgets d.budgets;
+  rules = seen_rules d.rules;
+}

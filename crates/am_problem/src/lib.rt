@@ -57,12 +57,3 @@ pub use printing::{canonical_texts_are_read, print_problem};
 pub use problem::Problem;
 pub use rows::{Inputs, ShortRow, WordRow};
 pub use text::{problem_at, read_problem, take_problem, texts_are_settled};
-
-#[cfg(test)]
-mod examples_tests;
-#[cfg(test)]
-mod generator_tests;
-#[cfg(test)]
-mod printing_tests;
-#[cfg(test)]
-mod tests;

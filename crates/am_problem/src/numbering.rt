@@ -94,7 +94,8 @@ fn number_production<'a>(
     production: &Production<'a>,
 ) -> Result<Numbered, AllocError>
     requires { length names.now.keys ≤ 16 }
-    ensures { IfOk result (λ r. r ≡ numbered_production (seen_names names.now.keys) (seen_production production.now)) }
+    ensures { IfOk result (λ r.
+        r ≡ numbered_production (seen_names names.now.keys) (seen_production production.now)) }
 {
     match production {
         Production::Leaf(term) => Ok(Numbered::Leaf(term.copy(alloc)?)),

@@ -1,4 +1,4 @@
--- When an outcome is accepted, by its contents alone: six conditions in order, and the fault of the first that fails.
+-- When an outcome is accepted, by its contents alone: conditions in order, and the fault of the first that fails.
 use Rattle.std.specs.Prelude.{ℕ, suc, ◌≡◌, ◌⊎◌, Bool, List, [], ◌∷◌, Result, Ok, Err, zip}
 use Rattle.am_bv.specs.declared.term.Term.{Term}
 use Rattle.am_chain.specs.declared.chain.Chain.{Chain}

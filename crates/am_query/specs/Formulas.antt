@@ -111,7 +111,8 @@ fit p positives negatives = do
   u ← each (covered p) positives
   each (uncovered p) negatives
 
--- at some inputs and some members of theirs, a transformer's result doesn't have the operation's value
+-- at some inputs and some members of theirs that meet the assumption, a transformer's result doesn't have the
+-- operation's value
 unfoldable pub sound : Problem → List Term → Step (Unit {0})
 sound p terms = do
   fields ← input_words p.width (all_fields p)

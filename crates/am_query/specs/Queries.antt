@@ -19,11 +19,11 @@ pub record AreStored (p : Problem) (most : ℕ) (pos : List Positive) (neg : Lis
   pub negatives : All (IsNegative p) neg
   pub few : length pos + length neg ≤ most
 
--- the examples of a fit: one more than there are turns, at most
+-- the examples of a fit: at most one more than the turns that are allowed
 abbrev pub AreFitted : Problem → List Positive → List Negative → Type 0
 AreFitted p positives negatives = AreStored p (p.turns + 1) positives negatives
 
--- the transformer and the examples of a question for a closer one: as many as there are turns, at most
+-- the transformer and the examples of a question for a closer one: at most as many as the turns that are allowed
 pub record AreCompared (p : Problem) (t : List Term) (pos : List Positive) (neg : List Negative) : Type 0 where
   pub transformer : IsTransformerOf p t
   pub stored : AreStored p p.turns pos neg

@@ -10,7 +10,7 @@ use crate::turn::Trace;
 use am_problem::{Negatives, Positive, Positives, Transformer};
 use std::alloc::{AllocError, Global};
 
-/// What is asked after some turns.
+/// What is asked after some turns, of the transformer `term` that is at hand then.
 #[derive(PartialEq, Debug, Drop)]
 pub enum Asked {
     /// After no turn: does some transformer derive?
@@ -25,7 +25,7 @@ pub enum Asked {
     Sound {
         term: Transformer,
     },
-    /// Does no transformer that satisfies the examples exclude a word that this one admits?
+    /// Does some transformer that satisfies the examples exclude a word, at some inputs, that this one admits?
     Precise {
         term: Transformer,
     },

@@ -13,7 +13,7 @@ pub enum Fault {
     PositiveFalse(u32),
     /// The negative example with this number isn't valid, or the terms don't satisfy it.
     NegativeFalse(u32),
-    /// A chain of a refutation isn't valid.
+    /// A chain of a refutation isn't valid. Step 0 is its first clause.
     BadChain {
         refutation: u32,
         chain: u32,

@@ -21,7 +21,7 @@ use am_slot::Template;
 use am_solve::{Answer, solve};
 use std::alloc::{AllocError, Global};
 
-/// Looks for a transformer that satisfies the examples.
+/// Looks for a transformer that satisfies the examples, with at most `limit` clauses derived.
 ///
 /// The answer is right whatever the limit is. Where 3 to the number of the grammar's selectors is at most the
 /// limit, it isn't `Spent`. After an error there was no memory.

@@ -39,7 +39,7 @@
 //! `specs/AcceptanceLaws.antt` no outcome is both accepted and at fault, and each has one fault at most. **What an
 //! accepted outcome says is right**: its transformer is best, or no transformer is sound. Beside acceptance this
 //! needs one term for each start and examples with rows of the problem; nothing is assumed of the turns, of the
-//! named transformers, or of the solver. The laws are the clauses of the functions of [`theorems`].
+//! named transformers, or of the solver. These laws are the clauses of the functions of [`theorems`].
 #![tactic(auto)]
 
 mod answers;

@@ -70,7 +70,7 @@ pub fn precise(
     }
 }
 
-/// The words of the inputs of a formula of precision, behind the selectors.
+/// The words of the inputs of a formula of precision, behind the fit.
 #[derive(Drop)]
 pub struct PreciseInputs {
     /// The fields of all inputs.

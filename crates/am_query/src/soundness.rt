@@ -126,8 +126,8 @@ impl Statements<'_> {
         Ok(SoundInputs { fields, words })
     }
 
-    /// States that the words are members of the inputs with these fields, and that the transformer's result
-    /// there doesn't have the operation's value.
+    /// States that the inputs with these fields are valid, that the words are members of them and meet the
+    /// assumption, and that the transformer's result there doesn't have the operation's value.
     fn failing(
         &self,
         circuit: &mut Circuit,

@@ -6,7 +6,8 @@ ghost use Rattle.am_query.specs.QueryLaws.{CloserOnesAreChosen, CloserOnesAreRea
 ghost use Rattle.am_query.specs.QueryLaws.{FailedExamplesAreChosen, FailedExamplesAreReached};
 ghost use Rattle.am_query.specs.QueryLaws.{FitsAreChosen, FitsAreReached, UnsatisfiedFitHasNone};
 ghost use Rattle.am_query.specs.QueryLaws.{UnsatisfiedPrecisionHasNoneCloser, UnsatisfiedSoundnessIsSound};
-ghost use Rattle.am_query.specs.TurnLaws.{TurnsAreFew};
+ghost use Rattle.am_query.specs.TurnLaws.{KeptAreDetermined, KeptGrow, NoneIsKeptAtFirst};
+ghost use Rattle.am_query.specs.TurnLaws.{TracesShow, TurnsAreFew};
 
 /// Truth values that satisfy the formula of a fit choose a transformer that satisfies the examples, and each such
 /// transformer is chosen by some. Where none satisfy the formula, no transformer satisfies the examples.
@@ -31,6 +32,19 @@ pub fn closer_ones_are_chosen()
     ensures chosen { CloserOnesAreChosen }
     ensures reached { CloserOnesAreReached }
     ensures none { UnsatisfiedPrecisionHasNoneCloser }
+{}
+
+/// Before the first example no place is kept. The next place is kept exactly where some transformer satisfies the
+/// positive examples, the kept ones and its own. The kept places are determined.
+pub fn kept_examples_are_determined()
+    ensures first { NoneIsKeptAtFirst }
+    ensures grow { KeptGrow }
+    ensures determined { KeptAreDetermined }
+{}
+
+/// The examples after a valid trace are true and valid, and no more than the turns.
+pub fn traces_show_examples()
+    ensures { TracesShow }
 {}
 
 /// A valid trace has at most K * (K + 1) turns, where K is the number of the grammar's tuples of trees.

@@ -38,7 +38,8 @@ unfoldable pub level_words : Rules → ℕ → List (List ℕ) → ℕ → ℕ �
 level_words rules w fields below x [] next = answer []
 level_words rules w fields below x (n ∷ ns) next = do
   rest ← level_words rules w fields below (x + width rules below n) ns (drop (length (shared rules below n)) next)
-  word ← slot_word w fields (shared rules below n) (take (length (shared rules below n)) next) x (zeros w) (offered rules below n)
+  word ← slot_word w fields (shared rules below n) (take (length (shared rules below n)) next) x (zeros w)
+      (offered rules below n)
   answer (word ∷ rest)
 
 -- the words of a level with so many levels below it, where x is its first selector

@@ -70,6 +70,7 @@ pub record AreOutputs (e : Encoding) (vars : ℕ) (words : List (List ℕ)) : Ty
   pub each : All (IsWord e.width vars) words
 
 -- the words read as the values of the tuple's terms at what the fields read
-pub record ReadAs (e : Encoding) (fields : List (List ℕ)) (v : ℕ → Bool) (ts : List Tree) (words : List (List ℕ)) : Type 0 where
+pub record ReadAs (e : Encoding) (fields : List (List ℕ)) (v : ℕ → Bool) (ts : List Tree) (words : List (List ℕ))
+    : Type 0 where
   pub bits : All (λ word. length word ≡ e.width) words
   pub values : map (reads v) words ≡ map (λ t. val e.width t (map (reads v) fields)) (terms_of e ts)

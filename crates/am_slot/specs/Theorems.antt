@@ -9,7 +9,8 @@ use Rattle.am_blast.specs.Words.{IsWord}
 use Rattle.am_tree.specs.declared.tree.Tree.{Tree}
 use Rattle.am_tree.specs.Slots.{layout_of}
 use Rattle.am_slot.specs.Encoding.{Encoding, IsEncoding, AreOver}
-use Rattle.am_slot.specs.Template.{selectors_of, template, block, weight_of_block, IsDerived, decoded, AreOutputs, ReadAs}
+use Rattle.am_slot.specs.Template.{selectors_of, template, block, weight_of_block, IsDerived, decoded, AreOutputs}
+use Rattle.am_slot.specs.Template.{ReadAs}
 
 -- one selector for each production of each slot of the layout
 abbrev pub SelectorsAreThoseOfTheLayout : Type 0

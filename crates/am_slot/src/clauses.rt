@@ -6,7 +6,8 @@ ghost use Rattle.std.specs.List.{list_any, range_with_len};
 ghost use Rattle.am_tree.specs.Slots.{offered, offered_by, shared, same, arguments};
 ghost use Rattle.am_slot.specs.Selectors.{selector, width, widths, room};
 ghost use Rattle.am_slot.specs.inside.Rules.{AreWhole};
-ghost use Rattle.am_slot.specs.Clauses.{root, pairs, slot_clauses, asks, children, level_clauses, next_asked, symbols, clauses_from};
+ghost use Rattle.am_slot.specs.Clauses.{root, pairs, slot_clauses, asks, children, level_clauses, next_asked, symbols};
+ghost use Rattle.am_slot.specs.Clauses.{clauses_from};
 
 use crate::rules::RuleTable;
 use am_lit::{Clauses, Lit};
@@ -133,7 +134,8 @@ fn push_pairs(clauses: &mut Clauses, literals: &[Lit]) -> Result<(), AllocError>
 /// Puts behind the others, for each later literal, the clause that not both are true.
 fn push_pairs_with(clauses: &mut Clauses, literal: Lit, later: &[Lit]) -> Result<(), AllocError>
     requires { length clauses.old + length later.now < 2 ^ 32 - 1 }
-    ensures { OnOk result (clauses.new ≡ clauses.old ++ map (λ m. opposite_of literal ∷ opposite_of m ∷ []) later.now) }
+    ensures { OnOk result (clauses.new
+        ≡ clauses.old ++ map (λ m. opposite_of literal ∷ opposite_of m ∷ []) later.now) }
 {
     for other in later {
         clauses.push(&[literal.opposite(), other.opposite()])?;

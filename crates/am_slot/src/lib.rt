@@ -42,8 +42,3 @@ mod template;
 pub mod theorems;
 
 pub use template::Template;
-
-#[cfg(test)]
-mod table;
-#[cfg(test)]
-mod tests;

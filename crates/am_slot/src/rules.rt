@@ -1,6 +1,7 @@
 //! The rules of a grammar, with what every level of slots asks of them.
 
-ghost use Rattle.std.specs.Prelude.{◌≡◌, ℕ, ◌+◌, ◌^◌, ◌<◌, ◌≤◌, ◌↔◌, All, IfOk, IsTrue, OnOk, [], ◌++◌, length, map, slice_index_or};
+ghost use Rattle.std.specs.Prelude.{◌≡◌, ℕ, ◌+◌, ◌^◌, ◌<◌, ◌≤◌, ◌↔◌, All, IfOk, IsTrue, OnOk, [], ◌++◌, length, map};
+ghost use Rattle.std.specs.Prelude.{slice_index_or};
 ghost use Rattle.am_tree.specs.Grammars.{is_production};
 ghost use Rattle.am_tree.specs.Slots.{arguments, offered_by, shared_by, shared, next_level};
 ghost use Rattle.am_slot.specs.Encoding.{is_leaf_over};

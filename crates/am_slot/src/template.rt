@@ -1,6 +1,7 @@
 //! Templates.
 
-ghost use Rattle.std.specs.Prelude.{◌≡◌, ℕ, ◌+◌, ◌^◌, ◌≤◌, ◌↔◌, Bool, false, List, ◌++◌, All, IfOk, IsTrue, OnOk, length, flat_map};
+ghost use Rattle.std.specs.Prelude.{◌≡◌, ℕ, ◌+◌, ◌^◌, ◌≤◌, ◌↔◌, Bool, false, List, ◌++◌, All, IfOk, IsTrue, OnOk};
+ghost use Rattle.std.specs.Prelude.{length, flat_map};
 ghost use Rattle.am_gate.specs.Circuit.{start, added, AreScoped, HasInputs, HasRoom, Grows, Begins};
 ghost use Rattle.am_gate.specs.Value.{Meets};
 ghost use Rattle.am_gate.specs.Build.{place_of, Follows, AreGates};
@@ -10,7 +11,8 @@ ghost use Rattle.am_blast.specs.Words.{IsWord};
 ghost use Rattle.am_tree.specs.declared.tree.Tree.{Tree};
 ghost use Rattle.am_tree.specs.Slots.{layout_of};
 ghost use Rattle.am_slot.specs.Encoding.{IsEncoding, AreOver};
-ghost use Rattle.am_slot.specs.Template.{selectors_of, clauses_of, template, block, weight_of_block, IsDerived, decoded, AreOutputs, ReadAs};
+ghost use Rattle.am_slot.specs.Template.{selectors_of, clauses_of, template, block, weight_of_block, IsDerived};
+ghost use Rattle.am_slot.specs.Template.{decoded, AreOutputs, ReadAs};
 
 use crate::block::Block;
 use crate::clauses::{push_clauses, roots};

@@ -1,7 +1,8 @@
 //! Laws of templates for the proofs of other crates. Each function does nothing: its clause is the law,
 //! and a call brings it into the caller's proof.
 
-ghost use Rattle.am_slot.specs.Theorems.{SelectorsAreThoseOfTheLayout, AssignmentsServe, DerivedTuplesAreReached, TemplatesMakeSelectors, BlocksMakeTheirWeight};
+ghost use Rattle.am_slot.specs.Theorems.{SelectorsAreThoseOfTheLayout, AssignmentsServe, DerivedTuplesAreReached};
+ghost use Rattle.am_slot.specs.Theorems.{TemplatesMakeSelectors, BlocksMakeTheirWeight};
 
 /// There is one selector for each production of each slot of the layout.
 pub fn selectors_are_those_of_the_layout()

@@ -1,6 +1,7 @@
 //! Conflict analysis: resolving backwards along the trail.
 
-ghost use Rattle.std.specs.Prelude.{◌≡◌, ◌≢◌, ◌+◌, ◌-◌, ◌<◌, ◌≤◌, ℕ, Bool, true, false, List, [], ◌++◌, length, All, Contains, slice_index_or, OnOk, IfOk, IsSome, Some};
+ghost use Rattle.std.specs.Prelude.{◌≡◌, ◌≢◌, ◌+◌, ◌-◌, ◌<◌, ◌≤◌, ℕ, Bool, true, false, List, [], ◌++◌, length, All};
+ghost use Rattle.std.specs.Prelude.{Contains, slice_index_or, OnOk, IfOk, IsSome, Some};
 ghost use Rattle.std.specs.List.Sorted.{IsStrictlyIncreasing};
 ghost use Rattle.am_lit.specs.Literal.{opposite_of};
 ghost use Rattle.am_trail.specs.Trails.{literals};

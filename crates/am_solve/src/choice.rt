@@ -1,6 +1,7 @@
 //! How the search chooses what to decide.
 
-ghost use Rattle.std.specs.Prelude.{◌≡◌, ◌+◌, ◌^◌, ◌<◌, [], ◌∷◌, ◌++◌, true, false, All, Contains, length, IfOk, IfNone, IfSome};
+ghost use Rattle.std.specs.Prelude.{◌≡◌, ◌+◌, ◌^◌, ◌<◌, [], ◌∷◌, ◌++◌, true, false, All, Contains, length, IfOk};
+ghost use Rattle.std.specs.Prelude.{IfNone, IfSome};
 ghost use Rattle.am_lit.specs.Literal.{variable_of};
 ghost use Rattle.am_lit.specs.UnitRow.{IsFree};
 ghost use Rattle.am_chain.specs.declared.chain.Step.{Step};

@@ -46,6 +46,3 @@ mod solving;
 
 pub use answer::Answer;
 pub use solving::solve;
-
-#[cfg(test)]
-mod tests;

@@ -1,6 +1,7 @@
 //! The marked places of a trail.
 
-ghost use Rattle.std.specs.Prelude.{◌≡◌, ◌+◌, ◌-◌, ◌<◌, ◌≤◌, ℕ, true, false, List, length, slice_index, slice_set, OnOk, IfOk};
+ghost use Rattle.std.specs.Prelude.{◌≡◌, ◌+◌, ◌-◌, ◌<◌, ◌≤◌, ℕ, true, false, List, length, slice_index, slice_set};
+ghost use Rattle.std.specs.Prelude.{OnOk, IfOk};
 ghost use Rattle.am_lit.specs.Literal.{opposite_of};
 ghost use Rattle.am_trail.specs.Trails.{literals};
 ghost use Rattle.am_solve.specs.inside.Marking.{mark_at};

@@ -1,6 +1,7 @@
 //! The state of a search, and its moves.
 
-ghost use Rattle.std.specs.Prelude.{◌≡◌, ◌+◌, ◌-◌, ◌^◌, ◌<◌, ◌≤◌, ℕ, [], ◌∷◌, ◌++◌, All, length, OnOk, IfOk, Ok, Contains, ◌↔◌};
+ghost use Rattle.std.specs.Prelude.{◌≡◌, ◌+◌, ◌-◌, ◌^◌, ◌<◌, ◌≤◌, ℕ, [], ◌∷◌, ◌++◌, All, length, OnOk, IfOk, Ok};
+ghost use Rattle.std.specs.Prelude.{Contains, ◌↔◌};
 ghost use Rattle.std.specs.List.Sorted.{IsStrictlyIncreasing};
 ghost use Rattle.am_lit.specs.Literal.{variable_of};
 ghost use Rattle.am_lit.specs.Clause.{IsNormal};

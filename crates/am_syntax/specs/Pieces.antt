@@ -1,5 +1,6 @@
 -- Pieces of a text: how a value is spelled, which values are good, and how one is read.
-use Rattle.std.specs.Prelude.{◌≡◌, ℕ, zero, suc, ◌≤◌, ◌<◌, Bool, false, ◌&&◌, nat_le, nat_lt, if◌then◌else◌, List, [], ◌∷◌}
+use Rattle.std.specs.Prelude.{◌≡◌, ℕ, zero, suc, ◌≤◌, ◌<◌, Bool, false, ◌&&◌, nat_le, nat_lt, if◌then◌else◌, List, []}
+use Rattle.std.specs.Prelude.{◌∷◌}
 use Rattle.std.specs.Prelude.{◌++◌, length, Option, Some, None, Result, Ok, Err, bytes_eq, codes, decimal, IsTrue, ◌⊎◌}
 use Rattle.std.proofs.Common.{inl, inr}
 use Rattle.am_text.specs.Tokens.{Left, words}

@@ -70,6 +70,3 @@ pub use words::{
     Below, Closing, Each, Key, Name, Number, is_next, refuse_next, take_below, take_closing,
     take_key, take_name, take_number,
 };
-
-#[cfg(test)]
-mod tests;

@@ -42,6 +42,3 @@ pub use gather::{Gather, GatherEnd};
 pub use token::Token;
 pub use tokens::{BadByte, Tokens};
 pub use writer::Writer;
-
-#[cfg(test)]
-mod tests;

@@ -53,6 +53,3 @@ mod values;
 pub use entry::Entry;
 pub use order::Order;
 pub use trail::Trail;
-
-#[cfg(test)]
-mod tests;

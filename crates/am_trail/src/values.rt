@@ -19,7 +19,8 @@ pub enum Value {
 pub fn set_true(values: &mut Vec<Value>, l: Lit)
     requires { 2 * variable_of l + 2 ≤ vec_len values.old }
     ensures len { vec_len values.new ≡ vec_len values.old }
-    ensures values { (row : List ℕ) → AreValues row values.old.items → AreValues (row ++ l ∷ []) values.new.items }
+    ensures values { (row : List ℕ) → AreValues row values.old.items →
+        AreValues (row ++ l ∷ []) values.new.items }
 {
     values[l.code() as usize] = Value::True;
     values[l.opposite().code() as usize] = Value::False;

@@ -5,7 +5,8 @@ use Rattle.am_bv.specs.Operators.{arity}
 use Rattle.am_bv.specs.Terms.{nodes}
 use Rattle.am_tree.specs.declared.grammar.Production.{Production}
 use Rattle.am_tree.specs.declared.grammar.Production.TheVariants.{Leaf, Node}
-use Rattle.am_tree.specs.declared.grammar.TheConstants.{MOST_DEPTH, MOST_LEAF_NODES, MOST_PRODUCTIONS, MOST_RULES, MOST_STARTS}
+use Rattle.am_tree.specs.declared.grammar.TheConstants.{MOST_DEPTH, MOST_LEAF_NODES, MOST_PRODUCTIONS, MOST_RULES}
+use Rattle.am_tree.specs.declared.grammar.TheConstants.{MOST_STARTS}
 
 -- a production of a grammar with so many nonterminals: a small leaf, or an operator with as many of
 -- them as its arity

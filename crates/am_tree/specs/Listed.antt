@@ -17,8 +17,8 @@ abbrev pub trees_by : (ℕ → List Tree) → ℕ → Production → List Tree
 trees_by f i (Leaf t) = tree i [] ∷ []
 trees_by f i (Node op names) = map (tree i) (choices (map f names))
 
--- the trees that derive from a nonterminal with a depth, ordered by their productions, then by the first child, then by the
--- second, and so on
+-- the trees that derive from a nonterminal with a depth, ordered by their productions, then by the first child, then
+-- by the second, and so on
 unfoldable pub trees_of : Rules → ℕ → ℕ → List Tree
 trees_of rules zero n = []
 trees_of rules (suc d) n =

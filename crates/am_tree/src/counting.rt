@@ -59,7 +59,8 @@ fn counts_above(rules: &[Productions], below: &[Option<u128>]) -> Counts
 /// How many trees these productions make, by the numbers for the nonterminals of their arguments.
 fn sum_of(productions: &[Production], below: &[Option<u128>]) -> Option<u128>
     requires { All (λ p. All (λ a. a.symbol < length below.now) (arguments p)) productions.now }
-    ensures { (f : ℕ → ℕ) → AreCounts f below.now → IsCount (sum_by (production_count f) productions.now) result }
+    ensures { (f : ℕ → ℕ) → AreCounts f below.now →
+        IsCount (sum_by (production_count f) productions.now) result }
 {
     let mut sum = Some(0);
     for production in productions {

@@ -64,8 +64,3 @@ pub use grammar::{
 };
 pub use slots::{Argument, Children, Layout, Slot, SlotRows, is_offered, shared};
 pub use tree::{Tree, Trees};
-
-#[cfg(test)]
-mod sums_tests;
-#[cfg(test)]
-mod tests;

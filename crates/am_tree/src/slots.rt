@@ -2,7 +2,8 @@
 
 ghost use Rattle.std.specs.Prelude.{◌≡◌, ℕ, ◌≤◌, ◌<◌, ◌+◌, ◌^◌, [], ◌∷◌, All, IfOk, OnOk, ◌++◌, length, map};
 ghost use Rattle.std.specs.List.{list_any};
-ghost use Rattle.am_tree.specs.Slots.{same, distinct, positioned, arguments, is_offered, shared_by, at_argument, counted, slot_by, next_level, level_slots, slots_from, layout_of, AreInside};
+ghost use Rattle.am_tree.specs.Slots.{same, distinct, positioned, arguments, is_offered, shared_by, at_argument};
+ghost use Rattle.am_tree.specs.Slots.{counted, slot_by, next_level, level_slots, slots_from, layout_of, AreInside};
 
 use crate::grammar::{Grammar, Production, Productions, Symbols};
 use am_bv::Row;

@@ -1,6 +1,7 @@
 //! Sums over all slots of a grammar, without making them.
 
-ghost use Rattle.std.specs.Prelude.{ℕ, ◌≡◌, ◌+◌, ◌-◌, ◌*◌, ◌^◌, ◌<◌, ◌≤◌, [], All, length, sum_by, slice_index, slice_index_or};
+ghost use Rattle.std.specs.Prelude.{ℕ, ◌≡◌, ◌+◌, ◌-◌, ◌*◌, ◌^◌, ◌<◌, ◌≤◌, [], All, length, sum_by, slice_index};
+ghost use Rattle.std.specs.Prelude.{slice_index_or};
 ghost use Rattle.am_tree.specs.Slots.{arguments, shared_by, offered_by, layout_of, AreInside};
 ghost use Rattle.am_tree.specs.Weights.{production_weight, slot_weight, block_weight};
 ghost use Rattle.am_tree.specs.inside.Totals.{total, IsSmall};
@@ -35,7 +36,8 @@ impl Grammar {
     /// The sum over all slots, where a slot of the last level counts `last` of its nonterminal, and any
     /// other slot `inner` of it.
     fn total(&self, last: Sums, inner: Sums) -> u64
-        requires lens { (length last.items ≡ length self.now.rules) × (length inner.items ≡ length self.now.rules) }
+        requires lens { (length last.items ≡ length self.now.rules)
+            × (length inner.items ≡ length self.now.rules) }
         requires last { All (λ x. x ≤ 2 ^ 21) last.items }
         requires inner { All (λ x. x ≤ 2 ^ 21) inner.items }
         ensures { let g = self.now in result ≡

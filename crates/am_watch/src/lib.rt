@@ -44,6 +44,3 @@ mod watches;
 
 pub use looks::clause_at;
 pub use watch::Watch;
-
-#[cfg(test)]
-mod tests;

@@ -1,6 +1,7 @@
--- Wrapped intervals. A tuple has two words, its start and its end: the members are the words from the start upwards by 1,
--- modulo 2 ^ w, to the end.
-use Rattle.std.specs.Prelude.{ℕ, ◌+◌, ◌-◌, ◌%◌, ◌^◌, ◌≤◌, Bool, true, false, ◌&&◌, ◌||◌, if◌then◌else◌, nat_lt, nat_le, ◌==◌, List, [], ◌∷◌, slice_index, ⊤}
+-- Wrapped intervals. A tuple has two words, its start and its end: the members are the words from the start upwards
+-- by 1, modulo 2 ^ w, to the end.
+use Rattle.std.specs.Prelude.{ℕ, ◌+◌, ◌-◌, ◌%◌, ◌^◌, ◌≤◌, Bool, true, false, ◌&&◌, ◌||◌, if◌then◌else◌, nat_lt, nat_le}
+use Rattle.std.specs.Prelude.{◌==◌, List, [], ◌∷◌, slice_index, ⊤}
 use Rattle.std.specs.declared.option.Option.{Option}
 use Rattle.std.specs.declared.option.Option.TheVariants.{Some}
 use Rattle.am_bv.specs.Terms.{binary}
@@ -52,7 +53,8 @@ across a b = start a ∷ end b ∷ []
 abbrev pub round_from : ℕ → ℕ → List ℕ
 round_from w c = c ∷ (c + (2 ^ w - 1)) % 2 ^ w ∷ []
 
--- of two candidates the one with the smaller span, or the first; where only one is a candidate, that one; else all words
+-- of two candidates the one with the smaller span, or the first; where only one is a candidate, that one; else all
+-- words
 abbrev pub narrower : ℕ → ℕ → List ℕ → List ℕ → Bool → Bool → List ℕ
 narrower w c there back true true = if nat_lt (span w back) (span w there) then back else there
 narrower w c there back true false = there
@@ -61,7 +63,8 @@ narrower w c there back false false = round_from w c
 
 -- the narrower one of the two intervals across the first and the second in which both lie
 abbrev pub bridge : ℕ → List ℕ → List ℕ → List ℕ
-bridge w a b = narrower w (start a) (across a b) (across b a) (both_lie_in w a b (across a b)) (both_lie_in w a b (across b a))
+bridge w a b =
+    narrower w (start a) (across a b) (across b a) (both_lie_in w a b (across a b)) (both_lie_in w a b (across b a))
 
 -- the first where the second lies in it, else the second where the first lies in it, else the bridge of the two
 abbrev pub wrapped_join : ℕ → List ℕ → List ℕ → List ℕ

@@ -20,6 +20,3 @@
 mod wrapped;
 
 pub use wrapped::Wrapped;
-
-#[cfg(test)]
-mod tests;

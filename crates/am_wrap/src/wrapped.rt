@@ -4,7 +4,9 @@ ghost use Rattle.std.specs.Prelude.{◌≡◌, ◌^◌, ◌<◌};
 ghost use Rattle.std.proofs.Common.{lit≤, refl};
 ghost use Rattle.am_domain.specs.Tuple.{IsTuple};
 ghost use Rattle.am_domain.specs.Walk.{steps};
-ghost use Rattle.am_wrap.specs.WrappedIntervals.{both_lie_in, bridge, lies_in, point, span, start, wrapped_intervals, wrapped_join, wrapped_member_term, wrapped_rank, wrapped_tidy, wrapped_top, wrapped_valid_term};
+ghost use Rattle.am_wrap.specs.WrappedIntervals.{both_lie_in, bridge, lies_in, point, span, start, wrapped_intervals};
+ghost use Rattle.am_wrap.specs.WrappedIntervals.{wrapped_join, wrapped_member_term, wrapped_rank, wrapped_tidy};
+ghost use Rattle.am_wrap.specs.WrappedIntervals.{wrapped_top, wrapped_valid_term};
 ghost use Rattle.am_wrap.specs.lemmas.WrappedLaws as laws;
 
 use am_bv::{Op, Term, Width};

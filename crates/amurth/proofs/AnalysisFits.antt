@@ -1,5 +1,5 @@
 -- The operations of accepted certificates that fit into a flow can be run with it, and cover its runs.
-use Rattle.std.proofs.Common.{◌≡◌, ℕ, true, false, List, [], ◌∷◌, ◌++◌, Option, Some, None, get_or, length, map, ap, sym, subst, refl, ◌∙◌}
+use Rattle.std.proofs.Common.{◌≡◌, ℕ, true, List, [], ◌∷◌, ◌++◌, Option, Some, None, get_or, length, map, ap, sym, subst, refl, ◌∙◌}
 use Rattle.std.specs.Prelude.{All, IsTrue, slice_get}
 use Rattle.std.specs.Option.{option_map}
 use Rattle.std.proofs.lemmas.List.{length-map}
@@ -9,7 +9,7 @@ use Rattle.am_bv.specs.Terms.{fits}
 use Rattle.am_bv.specs.declared.term.Term.{Term}
 use Rattle.am_chain.specs.declared.chain.Chain.{Chain}
 use Rattle.am_cert.specs.Certificate.{Certificate, IsCertificate}
-use Rattle.am_cert.specs.Grammar.{Shape, best, outcome, result_term, shape_of}
+use Rattle.am_cert.specs.Grammar.{best, outcome, result_term, shape_of}
 use Rattle.am_domain.specs.Question.{IsSound}
 use Rattle.am_flow.specs.Flows.{AllFit, AreOperations, Fits, Flow, IsFlow, IsOperation, Operation, signature_of}
 use Rattle.am_flow.specs.Runs.{AllSound}

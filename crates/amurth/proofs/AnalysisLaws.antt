@@ -1,10 +1,8 @@
 -- How certificates and a flow are read, settled, and fit to be run.
-use Rattle.std.proofs.Common.{◌≡◌, ℕ, zero, suc, ◌+◌, ◌^◌, ◌<◌, ◌≤◌, true, false, cond, List, [], ◌∷◌, ◌++◌, Option, Some, None}
-use Rattle.std.proofs.Common.{Result, Ok, Err, length, map, ap, sym, subst, refl, ◌∙◌, inl, inr, arith, length-append, nat_lt}
-use Rattle.std.specs.Prelude.{All, slice_get, codes, IfOk}
-use Rattle.std.specs.Option.{option_map}
+use Rattle.std.proofs.Common.{◌≡◌, ℕ, suc, ◌^◌, ◌<◌, ◌≤◌, true, List, [], ◌∷◌, ◌++◌}
+use Rattle.std.proofs.Common.{Result, Ok, Err, length, ap, sym, subst, refl, ◌∙◌, inl, inr, arith, nat_lt}
+use Rattle.std.specs.Prelude.{codes}
 use Rattle.std.proofs.lemmas.List.{append_assoc}
-use Rattle.std.proofs.lemmas.Option.{slice_get-map}
 use Rattle.am_text.specs.Tokens.{Left, Placed, text_left, words}
 use Rattle.am_problem.specs.Texts.{draft as problem_draft}
 use Rattle.am_problem.proofs.Laws.{draft_advances}

@@ -20,7 +20,7 @@ use Rattle.amurth.specs.Checked.{IsCheckDue, IsReport}
 use Rattle.amurth.specs.Lines.{refusal_line}
 use Rattle.amurth.specs.Listed.{IsListDue}
 use Rattle.amurth.specs.Made.{IsMakeDue}
-use Rattle.amurth.specs.Run.{IsDue, IsTold}
+use Rattle.amurth.specs.Run.{IsDue, IsDueSomehow, IsTold, input_of}
 use Rattle.amurth.specs.Synthesised.{IsProblemText, status_of}
 use Rattle.amurth.specs.declared.command.Command.{Command}
 use Rattle.amurth.specs.declared.command.Command.TheVariants.{Analyse, Check, List as ListCommand, Make, Synth}
@@ -46,6 +46,12 @@ report_told (Ok u) s written h = told_as s Done h.0 tt
 report_told (Err (feed.Refused r)) s written h = told_as s Refused h.0 tt
 report_told (Err (feed.Rejected f)) s written h = told_as s Rejected h.0 tt
 report_told (Err feed.NoMemory) s written h = absurd h
+
+-- what is due with a status is due somehow
+pub due_somehow : (c : Command) (s : Status) (written : List ℕ) (input : Option (List ℕ)) →
+    IfSome input (λ bytes. IsDue c s bytes written) → IfSome input (λ bytes. IsDueSomehow c bytes written)
+due_somehow c s written None due = tt
+due_somehow c s written (Some bytes) due = (s, due)
 
 -- what is due tells how the work ended
 pub due_told : (c : Command) (s : Status) (input written : List ℕ) → IsDue c s input written → IsTold s
@@ -147,9 +153,13 @@ lost_long (Some all) (Some rest) bytes P taken long h =
 
 -- ---- responses
 
-if_told : (left : Option (List ℕ)) (P : List ℕ → Type 0) → ((input : List ℕ) → P input) → IfSome left P
-if_told None P h = tt
-if_told (Some input) P h = h input
+-- a command that answers a text reads what the source has
+text_read : (c : Command) → AnswersText c → (left : Option (List ℕ)) → input_of c left ≡ left
+text_read Synth may left = refl
+text_read Analyse may left = refl
+text_read ListCommand may left = refl
+text_read Check may left = absurd may
+text_read (Make n) may left = absurd may
 
 -- the refusal of a problem that isn't small is due to each of its texts
 pub too_great_due : {E : Type 0} (p : Problem) (refusal : Refusal) → IsTooGreat p refusal → (result : Result Response E) →
@@ -174,8 +184,8 @@ long_answered c may r refused old new lost before after same =
     let long : MOST_BYTES < length lost.0 = omega (arith, lost.2) in
     record {
       told = told_as r.status Refused refused.0 tt;
-      due = lost_long old new lost.0 Due lost.1 long (λ input longer.
-          long_due c may input longer r.status refused.0 r.text.items refused.1);
+      due = subst (λ left. IfSome left Due) (sym (text_read c may old)) (lost_long old new lost.0 Due lost.1 long
+          (λ input longer. long_due c may input longer r.status refused.0 r.text.items refused.1));
       end = λ done. absurd (let e : Done ≡ Refused = sym done ∙ refused.0 in cc);
       fault = λ e. cc;
       kept = λ _. same;
@@ -187,7 +197,7 @@ pub made_answered : (n : ℕ) (r : Response) → IsMakeDue n r.status r.text.ite
     IsAnswered (Make n) (Ok r) left left faults faults
 made_answered n r due left faults = record {
   told = due_told (Make n) r.status [] r.text.items due;
-  due = if_told left (λ input. IsDue (Make n) r.status input r.text.items) (λ _. due);
+  due = due;
   end = λ _. tt;
   fault = λ e. cc;
   kept = λ _. refl;

@@ -1,5 +1,6 @@
 -- What `analyse` reads, certificates and then a flow, and what it writes: the flow's table.
-use Rattle.std.specs.Prelude.{◌≡◌, ℕ, ◌≤◌, ◌⊎◌, Bool, false, true, nat_lt, List, [], ◌∷◌, ◌++◌, All, decimal, codes, length, map, take}
+use Rattle.std.specs.Prelude.{◌≡◌, ℕ, ◌≤◌, ◌⊎◌, Bool, false, true, nat_lt, List, [], ◌∷◌, All, decimal, codes}
+use Rattle.std.specs.Prelude.{length, map, take}
 use Rattle.std.specs.Prelude.{Option, None, Some, Result, Ok, Err, slice_get, if◌then◌else◌}
 use Rattle.am_text.specs.Tokens.{bad_byte, text_left}
 use Rattle.am_bv.specs.declared.term.Term.{Term}
@@ -23,7 +24,7 @@ use Rattle.am_syntax.specs.declared.refusal.Cause.TheVariants.{Count}
 use Rattle.am_syntax.specs.declared.refusal.Refusal.{Refusal}
 use Rattle.am_syntax.specs.declared.refusal.Refusal.TheVariants.{BadByte, Mismatch}
 use Rattle.amurth.specs.Lines.{fault_line, refusal_line}
-use Rattle.amurth.specs.Synthesised.{IsRefusalBy, IsRefusedBy}
+use Rattle.amurth.specs.Synthesised.{IsRefusedBy}
 use Rattle.amurth.specs.declared.limits.TheConstants.{MOST_CERTIFICATES}
 use Rattle.amurth.specs.declared.status.Status.{Status}
 use Rattle.amurth.specs.declared.status.Status.TheVariants.{Done, Refused, Rejected}
@@ -84,7 +85,7 @@ is_best (Absent trace log) = false
 is_best (Turns trace) = false
 is_best (Conflicts trace asked log) = false
 
--- what a certificate has a transformer for
+-- what an operation is over, and whether a certificate has a best transformer of it
 abbrev pub signature : Certificate → Signature
 signature c = record {
   width = c.problem.width;

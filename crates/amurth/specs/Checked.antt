@@ -20,7 +20,8 @@ IsReport (Err (feed.Refused r)) status written = (status ≡ Refused) × (writte
 IsReport (Err (feed.Rejected f)) status written = (status ≡ Rejected) × (written ≡ fault_line [] f)
 IsReport (Err feed.NoMemory) status written = ⊥
 
--- what `check` writes for an input, by the status behind it; what `synth` wrote as done, and isn't too long, is accepted
+-- what `check` writes for an input, by the status behind it; what `synth` wrote as done, and isn't too long, is
+-- accepted
 pub record IsCheckDue (status : Status) (input written : List ℕ) : Type 0 where
   pub verdict : Result (Unit {0}) FeedEnd
   pub right : IsVerdict input verdict

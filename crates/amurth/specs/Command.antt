@@ -12,7 +12,7 @@ words_of Analyse = codes "analyse" ∷ []
 words_of ListCommand = codes "list" ∷ []
 words_of (Make n) = codes "make" ∷ decimal n ∷ []
 
--- a made problem has a number
+-- the number of a made problem is one of those from 0 to the last
 abbrev pub IsNumbered : Command → Type 0
 IsNumbered Synth = Unit {0}
 IsNumbered Check = Unit {0}

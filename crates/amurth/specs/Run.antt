@@ -1,5 +1,5 @@
 -- What a run writes for its input.
-use Rattle.std.specs.Prelude.{◌≡◌, ℕ, ◌⊎◌, List, IfSome}
+use Rattle.std.specs.Prelude.{◌≡◌, ℕ, ◌⊎◌, List, [], Some, IfSome}
 use Rattle.std.specs.declared.option.Option.{Option}
 use Rattle.std.specs.Io.KnownBytes.{Appends, IsAtEnd}
 use Rattle.am_io.specs.Streams.{AppendsPrefix}
@@ -22,6 +22,14 @@ IsDue Check = IsCheckDue
 IsDue Analyse = IsAnalyseDue
 IsDue ListCommand = IsListDue
 IsDue (Make n) = λ status input. IsMakeDue n status
+
+-- what a command reads of a source that has these bytes left; `make` reads nothing of any source
+abbrev pub input_of : Command → Option (List ℕ) → Option (List ℕ)
+input_of Synth left = left
+input_of Check left = left
+input_of Analyse left = left
+input_of ListCommand left = left
+input_of (Make n) left = Some []
 
 -- a whole text was written, which tells how the work ended
 abbrev pub IsTold : Status → Type 0
@@ -57,7 +65,8 @@ Writes Due input old new = (written : List ℕ) × Appends old new written × If
 
 -- a prefix of such a text was written
 abbrev pub WritesPrefix : (List ℕ → List ℕ → Type 0) → Option (List ℕ) → Option (List ℕ) → Option (List ℕ) → Type 0
-WritesPrefix Due input old new = (written : List ℕ) × AppendsPrefix old new written × IfSome input (λ bytes. Due bytes written)
+WritesPrefix Due input old new =
+    (written : List ℕ) × AppendsPrefix old new written × IfSome input (λ bytes. Due bytes written)
 
 -- a prefix of a text that would have been whole with some status
 abbrev pub IsDueSomehow : Command → List ℕ → List ℕ → Type 0

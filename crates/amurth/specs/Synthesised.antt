@@ -29,7 +29,8 @@ IsRefusalBy value input r =
     ((MOST_BYTES < length input) × (r ≡ Long)) ⊎ ((length input ≤ MOST_BYTES) × (value input ≡ Err r))
 
 -- the input is refused, and the line that says why is written
-pub record IsRefusedBy {A : Type 0} (value : List ℕ → Result A Refusal) (status : Status) (input written : List ℕ) : Type 0 where
+pub record IsRefusedBy {A : Type 0} (value : List ℕ → Result A Refusal) (status : Status) (input written : List ℕ)
+    : Type 0 where
   pub ended : status ≡ Refused
   pub refusal : Refusal
   pub first : IsRefusalBy value input refusal
@@ -48,8 +49,8 @@ status_of (Conflicts trace asked log) = SpentConflicts
 abbrev pub certificate : Problem → Outcome → Certificate
 certificate p o = record { version = Two; problem = p; outcome = o }
 
--- how a synthesis ended; with K tuples of trees it never spends K * (K + 1) turns, nor 3 ^ I derived clauses where
--- no circuit has more than I inputs
+-- how a synthesis ended; with K tuples of trees K * (K + 1) turns are never spent, nor 3 ^ I derived clauses where no
+-- circuit has more than I inputs
 pub record HasEnded (p : Problem) (status : Status) (outcome : Outcome) : Type 0 where
   pub synthesis : IsSynthesis p outcome
   pub turns : let k = tuple_count p.rules p.starts p.depth in k * (k + 1) ≤ p.turns → ¬ AreTurnsSpent outcome

@@ -14,7 +14,8 @@ use std::alloc::{AllocError, Global};
 
 /// The response of `check` to the stream that was fed.
 pub fn checked(alloc: Global, feed: Feed) -> Result<Response, AllocError>
-    ensures { (stream : List ℕ) → Holds feed stream → IfOk result (λ r. IsCheckDue r.status stream r.text.items) }
+    ensures { (stream : List ℕ) → Holds feed stream →
+        IfOk result (λ r. IsCheckDue r.status stream r.text.items) }
 {
     match feed.end(alloc) {
         Ok(()) => Ok(Response {

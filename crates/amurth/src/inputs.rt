@@ -34,7 +34,7 @@ pub struct Analysis {
 ///
 /// # Errors
 ///
-/// `Refused`: the text has none, with the first refusal.
+/// `Refused`: the text has none, with the first refusal; `NoMemory`.
 pub fn read_analysis(alloc: Global, text: &[u8]) -> Result<Analysis, ReadError>
     requires { length text.now ≤ MOST_BYTES }
     ensures value { Answers seen_analysis result (analysis_of text.now) }

@@ -5,7 +5,7 @@
 //! amurth check < certificate  # writes that it is accepted, or why it isn't
 //! amurth list < problem       # writes all best transformers of a small problem
 //! amurth make 7               # writes a summary of the problem with this number
-//! amurth analyse < flow       # writes the table of a flow behind the certificates of its operations
+//! amurth analyse < flow       # reads certificates and then a flow, and writes the flow's table
 //! ```
 //!
 //! The exit codes are those of [`status::Status::code`].

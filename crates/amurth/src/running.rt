@@ -6,6 +6,7 @@ ghost use Rattle.am_cert.specs.declared.limits.TheConstants.{MOST_BYTES};
 ghost use Rattle.am_io.specs.Streams.{AppendsPrefix, LosesAtMost};
 ghost use Rattle.amurth.specs.Command.{IsCommand};
 ghost use Rattle.amurth.specs.Run.{Calls, HasRead, IsDue, IsDueSomehow, IsSilent, IsTold, Writes, WritesPrefix};
+ghost use Rattle.amurth.specs.Run.{input_of};
 ghost use Rattle.amurth.specs.declared.command.Command.{Command as Named};
 ghost use Rattle.amurth.specs.declared.command.Command.TheVariants.{Make};
 
@@ -18,8 +19,8 @@ use std::alloc::Global;
 
 /// Runs a command on an input, and writes its whole output or, after a fault of the sink, a prefix.
 ///
-/// With the word `synth` or `list` the input is a problem, with `check` a certificate, with `analyse` certificates and a
-/// flow. With `make` and a number nothing is read.
+/// With the word `synth` or `list` the input is a problem, with `check` a certificate, with `analyse`
+/// certificates and a flow. With `make` and a number nothing is read.
 pub fn run<R: Source, W: Sink>(
     alloc: Global,
     words: &CommandWords,
@@ -31,7 +32,7 @@ pub fn run<R: Source, W: Sink>(
 
     // What was written is due to the input, and tells how the work ended.
     ensures due { IsTold result → Calls words.now (λ c.
-        Writes (IsDue c result) (R.left input.old) (W.taken output.old) (W.taken output.new)) }
+        Writes (IsDue c result) (input_of c (R.left input.old)) (W.taken output.old) (W.taken output.new)) }
 
     // Where the work is done, the input was read to its end. A made problem has no input.
     ensures end { result ≡ Status.Done → Calls words.now (λ c. HasRead c (R.left input.new)) }
@@ -48,7 +49,7 @@ pub fn run<R: Source, W: Sink>(
 
     // A fault of the sink leaves a prefix of what was due. All else leaves the whole or nothing.
     ensures part { result ≡ Status.WriteFault → Calls words.now (λ c.
-        WritesPrefix (IsDueSomehow c) (R.left input.old) (W.taken output.old) (W.taken output.new)) }
+        WritesPrefix (IsDueSomehow c) (input_of c (R.left input.old)) (W.taken output.old) (W.taken output.new)) }
     ensures silent { IsSilent result → output.new ≡ output.old }
 
     // Behind a whole text a `finish` of the sink succeeded.

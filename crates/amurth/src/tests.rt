@@ -3,6 +3,7 @@
 ghost use Rattle.std.specs.Prelude.{◌≡◌, ◌<◌, IfOk};
 
 use crate::command::{Command, CommandWords, command_words};
+use crate::limits::MOST_CERTIFICATES;
 use crate::running::run;
 use crate::status::Status;
 use am_io::{MemorySink, MemorySource};
@@ -327,6 +328,11 @@ fn exit_codes_are_the_documented_ones(rt: HostRuntime) {
     for (status, code) in table {
         assert_eq!(rt; status.code(), code);
     }
+}
+
+#[test]
+fn sixteen_certificates_may_stand_before_a_flow(rt: HostRuntime) {
+    assert_eq!(rt; MOST_CERTIFICATES, 16);
 }
 
 #[test]

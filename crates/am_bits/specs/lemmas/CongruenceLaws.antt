@@ -1,21 +1,26 @@
 -- The laws of congruences.
-use Rattle.std.proofs.Common.{◌≡◌, ◌≢◌, ℕ, ◌+◌, ◌-◌, ◌%◌, ◌^◌, ◌<◌, ◌≤◌, true, List, [], ◌∷◌, slice_index, take, ◌↔◌, nat_lt, inl, inr, refl, sym, ap, ◌∙◌, arith, bit_and, bit_xor, count_ones, lit≤}
+use Rattle.std.proofs.Common.{◌≡◌, ◌≢◌, ℕ, ◌+◌, ◌-◌, ◌%◌, ◌^◌, ◌<◌, ◌≤◌, true, List, [], ◌∷◌, slice_index, take, ◌↔◌}
+use Rattle.std.proofs.Common.{nat_lt, inl, inr, refl, sym, ap, ◌∙◌, arith, bit_and, bit_xor, count_ones, lit≤}
 use Rattle.std.proofs.lemmas.Bool.{lt-ltb}
 use Rattle.std.proofs.lemmas.Nat.{pow_pos, and_mask, and_le_l, and_le_r, xor_lt, ones-le}
 use Rattle.std.proofs.lemmas.Nat.Bits.{bit_at-lt, bit_at-zero, bit_at_and, bit_at_xor, same_from_bits}
 use Rattle.std.specs.Int.{bit_at}
-use Rattle.am_bv.proofs.Laws.{one_is_word, fits-Node, fits-Const, fits-Field, nodes-Node, nodes-Const, nodes-Field, val-Const, val-Field}
+use Rattle.am_bv.proofs.Laws.{one_is_word, fits-Node, fits-Const, fits-Field, nodes-Node, nodes-Const, nodes-Field}
+use Rattle.am_bv.proofs.Laws.{val-Const, val-Field}
 use Rattle.am_bv.specs.Terms.{val}
 use Rattle.am_bv.specs.Words.{complement}
 use Rattle.am_domain.specs.Tuple.{IsTuple}
 use Rattle.am_domain.specs.Meaning.{IsAbstract}
-use Rattle.am_domain.specs.Laws.{HasMembers, HasTop, HoldsWords, JoinsAbove, Descends, Tidies, TellsValidity, TellsMembership}
+use Rattle.am_domain.specs.Laws.{HasMembers, HasTop, HoldsWords, JoinsAbove, Descends, Tidies, TellsValidity}
+use Rattle.am_domain.specs.Laws.{TellsMembership}
 use Rattle.am_bits.specs.lemmas.Bits.{bit_cases, set_bits, same_bits, bit_at-without, below_power, fewer_ones}
 use Rattle.am_bits.specs.lemmas.Masks.{mask_by_next, kept_by_mask, within_mask, low-within, low-mask}
 use Rattle.am_domain.proofs.Laws.{pair-IsTuple, by_two, by_three}
 use Rattle.am_bv.proofs.Laws.{val-unary, val-binary}
 use Rattle.am_bits.specs.lemmas.Terms.{equality-tells, equalities-tell, iff-trans}
-use Rattle.am_bits.specs.Congruences.{congruences, mask, residue, IsMask, IsCongruence, IsCongruent, low, agreed, modulo, congruence_top, congruence_of_word, congruence_join, congruence_tidy, congruence_rank, congruence_valid_term, congruence_member_term}
+use Rattle.am_bits.specs.Congruences.{congruences, mask, residue, IsMask, IsCongruence, IsCongruent, low, agreed}
+use Rattle.am_bits.specs.Congruences.{modulo, congruence_top, congruence_of_word, congruence_join, congruence_tidy}
+use Rattle.am_bits.specs.Congruences.{congruence_rank, congruence_valid_term, congruence_member_term}
 
 -- a mask and a residue that is at most the mask are a value
 value : (w m r : ℕ) → m < 2 ^ w → IsMask w m → r ≤ m → IsAbstract congruences w (m ∷ r ∷ [])

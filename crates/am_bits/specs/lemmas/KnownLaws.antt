@@ -1,22 +1,27 @@
 -- The laws of known bits.
-use Rattle.std.proofs.Common.{◌≡◌, ◌≢◌, ℕ, ◌^◌, ◌<◌, Bool, true, false, cond, List, [], ◌∷◌, slice_index, take, ◌↔◌, nat_lt, inl, inr, refl, sym, ap, ◌∙◌, arith, ◌==◌, bit_and, count_ones, lit≤}
+use Rattle.std.proofs.Common.{◌≡◌, ◌≢◌, ℕ, ◌^◌, ◌<◌, Bool, true, false, cond, List, [], ◌∷◌, slice_index, take, ◌↔◌}
+use Rattle.std.proofs.Common.{nat_lt, inl, inr, refl, sym, ap, ◌∙◌, arith, ◌==◌, bit_and, count_ones, lit≤}
 use Rattle.std.specs.declared.option.Option.TheVariants.{Some, None}
 use Rattle.std.proofs.lemmas.Bool.{cases_lt, eqb-true, eqb-false, lt-ltb}
 use Rattle.std.proofs.lemmas.Nat.{pow_pos, and_le_l, ones-le}
 use Rattle.std.proofs.lemmas.Nat.Bits.{bit_at-lt, bit_at-zero, bit_at_and, bit_at_above}
 use Rattle.std.specs.Int.{bit_at}
 use Rattle.std.specs.Option.{MatchOption}
-use Rattle.am_bv.proofs.Laws.{fits-Node, fits-Const, fits-Field, nodes-Node, nodes-Const, nodes-Field, val-Const, val-Field}
+use Rattle.am_bv.proofs.Laws.{fits-Node, fits-Const, fits-Field, nodes-Node, nodes-Const, nodes-Field, val-Const}
+use Rattle.am_bv.proofs.Laws.{val-Field}
 use Rattle.am_bv.specs.Terms.{val}
 use Rattle.am_bv.specs.Words.{complement}
 use Rattle.am_domain.specs.Tuple.{IsTuple}
 use Rattle.am_domain.specs.Meaning.{IsAbstract}
-use Rattle.am_domain.specs.Laws.{HasMembers, HasTop, HoldsWords, JoinsAbove, Descends, Tidies, TellsValidity, TellsMembership}
-use Rattle.am_bits.specs.lemmas.Bits.{bit_cases, disjoint_bits, clear_bits, set_bits, bit_at-complement, below_power, kept_or_fewer}
+use Rattle.am_domain.specs.Laws.{HasMembers, HasTop, HoldsWords, JoinsAbove, Descends, Tidies, TellsValidity}
+use Rattle.am_domain.specs.Laws.{TellsMembership}
+use Rattle.am_bits.specs.lemmas.Bits.{bit_cases, disjoint_bits, clear_bits, set_bits, bit_at-complement, below_power}
+use Rattle.am_bits.specs.lemmas.Bits.{kept_or_fewer}
 use Rattle.am_domain.proofs.Laws.{pair-IsTuple, by_two, by_three}
 use Rattle.am_bv.proofs.Laws.{val-binary}
 use Rattle.am_bits.specs.lemmas.Terms.{equality-tells, equalities-tell, iff-trans}
-use Rattle.am_bits.specs.KnownBits.{known_bits, zeros, ones, IsKnown, HasKnown, known_top, known_of_word, known_join, known_tidy, known_rank, known_valid_term, known_member_term}
+use Rattle.am_bits.specs.KnownBits.{known_bits, zeros, ones, IsKnown, HasKnown, known_top, known_of_word, known_join}
+use Rattle.am_bits.specs.KnownBits.{known_tidy, known_rank, known_valid_term, known_member_term}
 
 -- two words without a common bit are a value
 value : (w z o : ℕ) → z < 2 ^ w → o < 2 ^ w → IsKnown (z ∷ o ∷ []) → IsAbstract known_bits w (z ∷ o ∷ [])

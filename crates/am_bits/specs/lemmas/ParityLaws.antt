@@ -1,5 +1,7 @@
 -- The laws of parities.
-use Rattle.std.proofs.Common.{◌≡◌, ◌≢◌, ℕ, zero, suc, ◌/◌, ◌%◌, ◌^◌, ◌<◌, ◌≤◌, Bool, true, false, cond, [], ◌∷◌, slice_index, take, ◌↔◌, nat_lt, inl, inr, refl, sym, ap, ◌∙◌, arith, ◌==◌, bit_and, bit_or, lit≤}
+use Rattle.std.proofs.Common.{◌≡◌, ◌≢◌, ℕ, zero, suc, ◌/◌, ◌%◌, ◌^◌, ◌<◌, ◌≤◌, Bool, true, false, cond, [], ◌∷◌}
+use Rattle.std.proofs.Common.{slice_index, take, ◌↔◌, nat_lt, inl, inr, refl, sym, ap, ◌∙◌, arith, ◌==◌, bit_and}
+use Rattle.std.proofs.Common.{bit_or, lit≤}
 use Rattle.std.specs.declared.option.Option.TheVariants.{Some, None}
 use Rattle.std.proofs.lemmas.Bool.{eqb-true, eqb-false, lt-ltb}
 use Rattle.std.proofs.lemmas.Nat.{pow_pos, and_mask, and_le_r, or_lt, ones-le}
@@ -7,17 +9,20 @@ use Rattle.std.proofs.lemmas.Nat.Bits.{shr_and_one, bit_at-lt, bit_at_and, bit_a
 use Rattle.std.specs.Int.{bit_at}
 use Rattle.std.specs.Int.Bits.{or_add_and}
 use Rattle.std.specs.Option.{MatchOption}
-use Rattle.am_bv.proofs.Laws.{one_is_word, fits-Node, fits-Const, fits-Field, nodes-Node, nodes-Const, nodes-Field, val-Const, val-Field}
+use Rattle.am_bv.proofs.Laws.{one_is_word, fits-Node, fits-Const, fits-Field, nodes-Node, nodes-Const, nodes-Field}
+use Rattle.am_bv.proofs.Laws.{val-Const, val-Field}
 use Rattle.am_bv.specs.Terms.{val}
 use Rattle.am_bv.specs.Operators.{lshr_of}
 use Rattle.am_domain.specs.Meaning.{IsAbstract}
-use Rattle.am_domain.specs.Laws.{HasMembers, HasTop, HoldsWords, JoinsAbove, Descends, Tidies, TellsValidity, TellsMembership}
+use Rattle.am_domain.specs.Laws.{HasMembers, HasTop, HoldsWords, JoinsAbove, Descends, Tidies, TellsValidity}
+use Rattle.am_domain.specs.Laws.{TellsMembership}
 use Rattle.am_bits.specs.lemmas.Bits.{bit_cases, bits_of_zero, more_ones}
 use Rattle.am_bits.specs.lemmas.Bits.{four_words}
 use Rattle.am_domain.proofs.Laws.{single-IsTuple, by_one, by_two}
 use Rattle.am_bv.proofs.Laws.{val-binary}
 use Rattle.am_bits.specs.lemmas.Terms.{orders-tell}
-use Rattle.am_bits.specs.Parities.{parities, IsParity, HasParity, parity_top, parity_of_word, parity_some_member, parity_join, parity_tidy, parity_rank, parity_valid_term, parity_member_term}
+use Rattle.am_bits.specs.Parities.{parities, IsParity, HasParity, parity_top, parity_of_word, parity_some_member}
+use Rattle.am_bits.specs.Parities.{parity_join, parity_tidy, parity_rank, parity_valid_term, parity_member_term}
 
 -- a fact at each parity
 by_parity : (P : ℕ → Type 0) → P 1 → P 2 → P 3 → (p : ℕ) → 1 ≤ p → p ≤ 3 → P p

@@ -10,8 +10,10 @@ use Rattle.am_query.specs.declared.turn.Turn.TheVariants.{Negative, Positive}
 use Rattle.am_syntax.specs.Pieces.{Piece, below, good_from, key_or, keyed, number}
 use Rattle.am_syntax.specs.Readers.{Word}
 use Rattle.am_cert.specs.Certificate.{AreBounded}
-use Rattle.am_cert.specs.Grammar.{Shape, asked, best, chain, counterexample, example, log, negative_count, none, outcome}
-use Rattle.am_cert.specs.Grammar.{place_behind, places, result_term, shape_of, spent_conflicts, spent_turns, step, terms}
+use Rattle.am_cert.specs.Grammar.{Shape, asked, best, chain, counterexample, example, log, negative_count, none}
+use Rattle.am_cert.specs.Grammar.{outcome}
+use Rattle.am_cert.specs.Grammar.{place_behind, places, result_term, shape_of, spent_conflicts, spent_turns, step}
+use Rattle.am_cert.specs.Grammar.{terms}
 use Rattle.am_cert.specs.Grammar.{turn, turns, word, words}
 use Rattle.am_cert.specs.inside.Drafts.{CanFollow}
 

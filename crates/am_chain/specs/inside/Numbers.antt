@@ -1,5 +1,6 @@
 -- The numbers that the chains of a log name, and numbers that are moved by a list.
-use Rattle.std.specs.Prelude.{ℕ, ◌≡◌, ◌+◌, ◌-◌, ◌<◌, ◌≤◌, ◌↔◌, ◌⊎◌, Bool, IsTrue, length, List, Some, slice_get, slice_index, if◌then◌else◌, nat_lt}
+use Rattle.std.specs.Prelude.{ℕ, ◌≡◌, ◌+◌, ◌-◌, ◌<◌, ◌≤◌, ◌↔◌, ◌⊎◌, Bool, IsTrue, length, List, Some, slice_get}
+use Rattle.std.specs.Prelude.{slice_index, if◌then◌else◌, nat_lt}
 use Rattle.am_chain.specs.declared.chain.Chain.{Chain}
 use Rattle.am_chain.specs.Trimmed.{Names}
 
@@ -15,4 +16,5 @@ renumbered given before n = if nat_lt n given then n else given + slice_index be
 abbrev pub AreNeededFrom : ℕ → ℕ → List Chain → (ℕ → Bool) → Type 0
 AreNeededFrom from given log keeps = (k : ℕ) → k < length log
     → IsTrue (keeps k) ↔ ((k + 1 ≡ length log)
-    ⊎ ((j : ℕ) × (chain : Chain) × (slice_get log j ≡ Some chain) × (from ≤ j) × IsTrue (keeps j) × Names chain (given + k)))
+    ⊎ ((j : ℕ) × (chain : Chain) × (slice_get log j ≡ Some chain) × (from ≤ j) × IsTrue (keeps j)
+    × Names chain (given + k)))

@@ -15,7 +15,7 @@ pub record IsKeeper (k : Keeper) : Type 0 where
   pub least : 1 ≤ k.limit
   pub most : k.limit ≤ 2 ^ 30
 
--- no query reaches the limit
+-- 3 to the number of selectors is at most the limit, and so no query reaches it
 abbrev pub HasEnough : Keeper → Type 0
 HasEnough k = 3 ^ input_count k.problem.now (Fit k.pos.now k.neg.now) ≤ k.limit
 

@@ -36,7 +36,7 @@ abbrev pub IsNext : Problem → ℕ → Next → Type 0
 IsNext p made (NextTurn s) = IsUnderway p p.turns s × (length s.trace ≡ made)
 IsNext p made (End o) = IsEnd p o
 
--- how many turns there may still be, one more than may be made among them
+-- how many turns there may still be, with the one that shows that they are spent
 abbrev pub turns_left : Problem → Next → ℕ
 turns_left p (NextTurn s) = p.turns + 1 - length s.trace
 turns_left p (End o) = 0

@@ -1,11 +1,13 @@
 -- The laws of the domain of intervals, for each reading of words as whole numbers.
-use Rattle.std.proofs.Common.{◌≡◌, ◌≢◌, ℕ, ◌-◌, ◌^◌, ◌<◌, inl, inr, true, false, refl, arith, ℤ, ◌≤ℤ◌, int_le, List, [], ◌∷◌, length, Bool, Some, None, if◌then◌else◌, MatchOption}
+use Rattle.std.proofs.Common.{◌≡◌, ◌≢◌, ℕ, ◌-◌, ◌^◌, ◌<◌, inl, inr, true, false, refl, arith, ℤ, ◌≤ℤ◌, int_le, List, []}
+use Rattle.std.proofs.Common.{◌∷◌, length, Bool, Some, None, if◌then◌else◌, MatchOption}
 use Rattle.std.proofs.lemmas.Int.{ints}
 use Rattle.am_bv.specs.Words.{IsWidth}
 use Rattle.am_domain.specs.Meaning.{IsAbstract}
 use Rattle.am_domain.specs.Laws.{HasMembers, HasTop, HoldsWords, JoinsAbove, Descends, Tidies}
 use Rattle.am_domain.proofs.Laws.{pair-IsTuple}
-use Rattle.am_interval.specs.Intervals.{Reading, least, greatest, IsBetween, intervals, point, hull, words_outside, tidied}
+use Rattle.am_interval.specs.Intervals.{Reading, least, greatest, IsBetween, intervals, point, hull, words_outside}
+use Rattle.am_interval.specs.Intervals.{tidied}
 use Rattle.am_interval.specs.lemmas.Numbers.{IsTop, fewer_outside, lesser-IsLesser, greater-IsGreater}
 
 -- a tuple of two words is the list of its ends

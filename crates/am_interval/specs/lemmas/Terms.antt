@@ -1,5 +1,6 @@
 -- The terms for intervals tell validity and membership.
-use Rattle.std.proofs.Common.{◌≡◌, ◌≢◌, ℕ, ◌↔◌, refl, ◌∙◌, arith, ℤ, ◌≤ℤ◌, int_le, List, [], ◌∷◌, slice_index, bit_and, lit≤, lit<}
+use Rattle.std.proofs.Common.{◌≡◌, ◌≢◌, ℕ, ◌↔◌, refl, ◌∙◌, arith, ℤ, ◌≤ℤ◌, int_le, List, [], ◌∷◌, slice_index, bit_and}
+use Rattle.std.proofs.Common.{lit≤, lit<}
 use Rattle.std.proofs.lemmas.Int.{ints}
 use Rattle.std.proofs.lemmas.List.{get_or-take}
 use Rattle.am_bv.specs.Words.{one_if, signed}

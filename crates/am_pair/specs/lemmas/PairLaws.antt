@@ -1,5 +1,6 @@
 -- The laws of a product of two domains, from those of the parts.
-use Rattle.std.proofs.Common.{◌≡◌, ◌≢◌, ℕ, ◌+◌, ◌*◌, ◌^◌, ◌<◌, ◌≤◌, ◌⊎◌, inl, inr, Bool, true, false, List, [], ◌∷◌, ◌++◌, slice_index, refl, sym, ap, ◌∙◌, subst, arith, MatchOption}
+use Rattle.std.proofs.Common.{◌≡◌, ◌≢◌, ℕ, ◌+◌, ◌*◌, ◌^◌, ◌<◌, ◌≤◌, ◌⊎◌, inl, inr, Bool, true, false, List, [], ◌∷◌}
+use Rattle.std.proofs.Common.{◌++◌, slice_index, refl, sym, ap, ◌∙◌, subst, arith, MatchOption}
 use Rattle.std.specs.Prelude.{All, AllPairs, Contains}
 use Rattle.std.specs.Str.{bytes_eq}
 use Rattle.std.specs.declared.option.Option.{Option}
@@ -12,10 +13,12 @@ use Rattle.am_bv.specs.declared.term.Term.{Term}
 use Rattle.am_domain.specs.Tuple.{IsTuple}
 use Rattle.am_domain.specs.Meaning.{Meaning, IsAbstract}
 use Rattle.am_domain.specs.Walk.{steps, walk}
-use Rattle.am_domain.specs.Laws.{HasMembers, HasTop, HoldsWords, JoinsAbove, Descends, Tidies, TellsValidity, TellsMembership, is_member}
+use Rattle.am_domain.specs.Laws.{HasMembers, HasTop, HoldsWords, JoinsAbove, Descends, Tidies, TellsValidity}
+use Rattle.am_domain.specs.Laws.{TellsMembership, is_member}
 use Rattle.am_domain.specs.AnchoredLaws.{HasStart, HasPoints, KeepsStart, WalksMembers, HasParts}
 use Rattle.am_domain.proofs.Laws.{pair-IsTuple, Contains-walk, part-between}
-use Rattle.am_pair.specs.Pairs.{first, second, pairs, pair_join, pair_rank, common, last_of, join_of_words, hull_of_words, tidy_parts, pair_valid_term, pair_member_term}
+use Rattle.am_pair.specs.Pairs.{first, second, pairs, pair_join, pair_rank, common, last_of, join_of_words}
+use Rattle.am_pair.specs.Pairs.{hull_of_words, tidy_parts, pair_valid_term, pair_member_term}
 use Rattle.am_pair.specs.lemmas.Parts.{parts, values, value, member, made, of_first, as_first}
 use Rattle.am_pair.specs.lemmas.Walks.{All-walk, AllPairs-walk}
 use Rattle.am_pair.specs.lemmas.Commons.{common-members, HasWords, join-has, last-most, first-least, last-contains}

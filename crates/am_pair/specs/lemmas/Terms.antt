@@ -1,5 +1,7 @@
 -- The terms for pairs tell validity and membership.
-use Rattle.std.proofs.Common.{◌≡◌, ◌≢◌, ℕ, zero, suc, ◌+◌, ◌^◌, ◌<◌, ◌≤◌, ◌↔◌, true, not, if◌then◌else◌, ◌==◌, IsTrue, nat_lt, List, [], ◌∷◌, ◌++◌, length, map, take, drop, slice_index, inl, inr, refl, sym, ap, ◌∙◌, subst, arith}
+use Rattle.std.proofs.Common.{◌≡◌, ◌≢◌, ℕ, zero, suc, ◌+◌, ◌^◌, ◌<◌, ◌≤◌, ◌↔◌, true, not, if◌then◌else◌, ◌==◌, IsTrue}
+use Rattle.std.proofs.Common.{nat_lt, List, [], ◌∷◌, ◌++◌, length, map, take, drop, slice_index, inl, inr, refl, sym}
+use Rattle.std.proofs.Common.{ap, ◌∙◌, subst, arith}
 use Rattle.std.specs.Prelude.{All}
 use Rattle.std.specs.List.{range_with_len}
 use Rattle.std.proofs.Math.Nat.{pow-le-pow_right}
@@ -13,7 +15,8 @@ use Rattle.std.proofs.lemmas.List.FromFn.{length-range_with_len, get_or-range_wi
 use Rattle.am_bv.specs.Words.{IsWidth}
 use Rattle.am_bv.specs.Terms.{val, fits, nodes}
 use Rattle.am_bv.specs.declared.term.Term.{Term}
-use Rattle.am_bv.proofs.Laws.{val-Const, val-ternary, val-same, val-rename, fits-Const, fits-Node, fits-more, fits-rename, nodes-Const, nodes-Node, nodes-rename}
+use Rattle.am_bv.proofs.Laws.{val-Const, val-ternary, val-same, val-rename, fits-Const, fits-Node, fits-more}
+use Rattle.am_bv.proofs.Laws.{fits-rename, nodes-Const, nodes-Node, nodes-rename}
 use Rattle.am_domain.specs.Tuple.{IsTuple}
 use Rattle.am_domain.specs.Meaning.{Meaning}
 use Rattle.am_domain.specs.Laws.{IsIndicator, TellsValidity, TellsMembership}

@@ -12,7 +12,8 @@ use Rattle.am_query.specs.Formulas.{assumed, encoding_of, forced, input_word, in
 use Rattle.am_query.specs.Formulas.{outputs, refused, valid}
 use Rattle.am_query.specs.inside.Weights.{member_weight, valid_weight}
 
--- the words are members of the fields' inputs, and the terms don't cover the operation there
+-- the inputs of the fields are valid, the words are members of them and meet the assumption, and the terms don't cover
+-- the operation there
 unfoldable pub failing : Problem → List Term → List (List ℕ) → List (List ℕ) → Step (Unit {0})
 failing p terms fields words = do
   u ← valid p fields
@@ -27,7 +28,7 @@ failing_weight p terms =
     p.inputs * (valid_weight p + 1) + p.inputs * (member_weight p + 1) + (assumption_weight p.width p.assume + 1)
     + weight p.width p.operation + sum_by (weight p.width) terms + (member_weight p + 1)
 
--- the chosen transformer excludes the word at the fields, and the terms admit it
+-- the inputs of the fields are valid, the chosen transformer excludes the word there, and the terms admit it
 unfoldable pub comparing : Problem → List Term → List (List ℕ) → List ℕ → Step (Unit {0})
 comparing p terms fields word = do
   u ← valid p fields

@@ -1,5 +1,6 @@
 -- Conflict analysis: the marked places of a trail stand for the literals of the current clause.
-use Rattle.std.specs.Prelude.{ℕ, ◌≡◌, ◌≢◌, ◌+◌, ◌<◌, ◌≤◌, Bool, true, false, List, [], drop, length, map, take, ◌-◌, All, Contains, slice_index, slice_index_or, ◌⊎◌, Ok, None, IsSome}
+use Rattle.std.specs.Prelude.{ℕ, ◌≡◌, ◌≢◌, ◌+◌, ◌<◌, ◌≤◌, Bool, true, false, List, [], drop, length, map, take, ◌-◌}
+use Rattle.std.specs.Prelude.{All, Contains, slice_index, slice_index_or, ◌⊎◌, Ok, None, IsSome}
 use Rattle.std.specs.List.{count_by}
 use Rattle.std.specs.List.Sorted.{IsStrictlyIncreasing}
 use Rattle.am_lit.specs.Literal.{opposite_of, variable_of}
@@ -16,30 +17,36 @@ mark_at marks k = slice_index_or marks k false
 
 -- the clause has exactly the opposites of the literals at the marked places
 pub record IsMarked (row : List ℕ) (marks : List Bool) (c : List ℕ) : Type 0 where
-  pub has : (m : ℕ) → Contains c m → (k : ℕ) × (k < length row) × (mark_at marks k ≡ true) × (m ≡ opposite_of (slice_index row k))
+  pub has : (m : ℕ) → Contains c m →
+      (k : ℕ) × (k < length row) × (mark_at marks k ≡ true) × (m ≡ opposite_of (slice_index row k))
   pub gives : (k : ℕ) → k < length row → mark_at marks k ≡ true → Contains c (opposite_of (slice_index row k))
 
 -- the marks from a place on are counted, and those before it are kept as literals
 pub record IsCounted (row : List ℕ) (start : ℕ) (marks : List Bool) (kept : List ℕ) (counted : ℕ) : Type 0 where
   pub count : counted ≡ count_by (λ b. b) (drop start marks)
-  pub has : (m : ℕ) → Contains kept m → (k : ℕ) × (k < start) × (mark_at marks k ≡ true) × (m ≡ opposite_of (slice_index row k))
+  pub has : (m : ℕ) → Contains kept m →
+      (k : ℕ) × (k < start) × (mark_at marks k ≡ true) × (m ≡ opposite_of (slice_index row k))
   pub gives : (k : ℕ) → k < start → mark_at marks k ≡ true → Contains kept (opposite_of (slice_index row k))
 
 -- the places of the false literals of a clause are marked too, but for one literal
 pub record IsMarkedMore (row : List ℕ) (old new : List Bool) (c : List ℕ) (besides : ℕ) : Type 0 where
   pub count : length new ≡ length old
   pub keeps : (k : ℕ) → mark_at old k ≡ true → mark_at new k ≡ true
-  pub there : (m : ℕ) → Contains c m → m ≢ besides → (k : ℕ) × (k < length row) × (mark_at new k ≡ true) × (m ≡ opposite_of (slice_index row k))
+  pub there : (m : ℕ) → Contains c m → m ≢ besides →
+      (k : ℕ) × (k < length row) × (mark_at new k ≡ true) × (m ≡ opposite_of (slice_index row k))
   pub within : (k : ℕ) → mark_at new k ≡ true
-      → (mark_at old k ≡ true) ⊎ ((m : ℕ) × (k < length row) × Contains c m × (m ≢ besides) × (m ≡ opposite_of (slice_index row k)))
+      → (mark_at old k ≡ true)
+      ⊎ ((m : ℕ) × (k < length row) × Contains c m × (m ≢ besides) × (m ≡ opposite_of (slice_index row k)))
 
 -- the opposites of the literals at the marked places before a place
 pub record IsKept (row : List ℕ) (start : ℕ) (marks : List Bool) (kept : List ℕ) : Type 0 where
-  pub has : (m : ℕ) → Contains kept m → (k : ℕ) × (k < start) × (mark_at marks k ≡ true) × (m ≡ opposite_of (slice_index row k))
+  pub has : (m : ℕ) → Contains kept m →
+      (k : ℕ) × (k < start) × (mark_at marks k ≡ true) × (m ≡ opposite_of (slice_index row k))
   pub gives : (k : ℕ) → k < start → mark_at marks k ≡ true → Contains kept (opposite_of (slice_index row k))
 
 -- the steps from a first clause come to a rising clause, which is marked
-pub record IsReached (clauses : List (List ℕ)) (row : List ℕ) (marks : List Bool) (first : ℕ) (steps : List Step) : Type 0 where
+pub record IsReached (clauses : List (List ℕ)) (row : List ℕ) (marks : List Bool) (first : ℕ) (steps : List Step)
+    : Type 0 where
   pub current : List ℕ
   pub derived : after_steps clauses 1 (slice_index_or clauses first []) steps ≡ Ok current
   pub rises : IsStrictlyIncreasing current
@@ -47,14 +54,16 @@ pub record IsReached (clauses : List (List ℕ)) (row : List ℕ) (marks : List 
   pub named : All (λ (s : Step). Contains (map variable_of row) s.variable) steps
 
 -- no place from i on is marked any more
-pub record IsDerived (clauses : List (List ℕ)) (row : List ℕ) (marks : List Bool) (first : ℕ) (steps : List Step) (i : ℕ) : Type 0 where
+pub record IsDerived (clauses : List (List ℕ)) (row : List ℕ) (marks : List Bool) (first : ℕ) (steps : List Step)
+    (i : ℕ) : Type 0 where
   pub reached : IsReached clauses row marks first steps
   pub above : (k : ℕ) → i ≤ k → mark_at marks k ≡ false
   pub few : length steps + i ≤ length row
 
 -- of the places from i on only decided ones are marked; and where the literals before a place settle
 -- all clauses, some place from there on is marked
-pub record IsResolved (clauses : List (List ℕ)) (entries : List Entry) (marks : List Bool) (first : ℕ) (steps : List Step) (i : ℕ) : Type 0 where
+pub record IsResolved (clauses : List (List ℕ)) (entries : List Entry) (marks : List Bool) (first : ℕ)
+    (steps : List Step) (i : ℕ) : Type 0 where
   pub reached : IsReached clauses (literals entries) marks first steps
   pub decided : (k : ℕ) (d : Entry) → i ≤ k → mark_at marks k ≡ true → (slice_index_or entries k d).reason ≡ None
   pub few : length steps + i ≤ length entries
@@ -62,7 +71,8 @@ pub record IsResolved (clauses : List (List ℕ)) (entries : List Entry) (marks 
       → (k : ℕ) × (start ≤ k) × (mark_at marks k ≡ true)
 
 -- one literal from the place `start` on is left, at a place; the others are kept
-pub record IsUnique (clauses : List (List ℕ)) (row : List ℕ) (start first : ℕ) (marks : List Bool) (kept : List ℕ) (steps : List Step) (place : ℕ) : Type 0 where
+pub record IsUnique (clauses : List (List ℕ)) (row : List ℕ) (start first : ℕ) (marks : List Bool) (kept : List ℕ)
+    (steps : List Step) (place : ℕ) : Type 0 where
   pub high : start ≤ place
   pub inside : place < length row
   pub here : mark_at marks place ≡ true
@@ -72,7 +82,8 @@ pub record IsUnique (clauses : List (List ℕ)) (row : List ℕ) (start first : 
   pub few : length steps ≤ length row
 
 -- one literal of the current level is left
-pub record IsAnalysed (clauses : List (List ℕ)) (t : Assigned) (first : ℕ) (kept : List ℕ) (steps : List Step) (place : ℕ) : Type 0 where
+pub record IsAnalysed (clauses : List (List ℕ)) (t : Assigned) (first : ℕ) (kept : List ℕ) (steps : List Step)
+    (place : ℕ) : Type 0 where
   pub marks : List Bool
   pub start : ℕ
   pub low : literals (upto (t.level - 1) t.entries) ≡ take start (literals t.entries)

@@ -1,5 +1,6 @@
 -- What the search keeps true between trail, watches, clauses and log.
-use Rattle.std.specs.Prelude.{ℕ, ◌≡◌, ◌<◌, ◌≤◌, List, [], ◌++◌, All, Contains, length, slice_index_or, Option, Some, None}
+use Rattle.std.specs.Prelude.{ℕ, ◌≡◌, ◌<◌, ◌≤◌, List, [], ◌++◌, All, Contains, length, slice_index_or, Option, Some}
+use Rattle.std.specs.Prelude.{None}
 use Rattle.am_lit.specs.Clause.{IsNormal}
 use Rattle.am_lit.specs.Literal.{variable_of}
 use Rattle.am_lit.specs.SearchLaws.{IsFalseIn}
@@ -17,7 +18,8 @@ abbrev pub SettledBelow : List (List ℕ) → List Entry → ℕ → Type 0
 SettledBelow clauses entries level = (i : ℕ) → i < level → All (IsSettled (literals (upto i entries))) clauses
 
 -- THE INVARIANT of the search, over the formula's clauses and the learnt ones
-pub record IsSearching (given learnt : List (List ℕ)) (vars : ℕ) (log : List Chain) (watch : Watched) (t : Assigned) : Type 0 where
+pub record IsSearching (given learnt : List (List ℕ)) (vars : ℕ) (log : List Chain) (watch : Watched) (t : Assigned)
+    : Type 0 where
   pub width : t.vars ≡ vars
   pub holds : Holds watch (given ++ learnt) t
   pub explained : IsExplained 0 (given ++ learnt) t.entries

@@ -1,5 +1,7 @@
 -- Wrapped intervals that lie in others.
-use Rattle.std.proofs.Common.{◌≡◌, ℕ, ◌+◌, ◌-◌, ◌%◌, ◌^◌, ◌<◌, ◌≤◌, ◌⊎◌, inl, inr, ◌↔◌, Bool, true, false, ◌&&◌, ◌||◌, nat_lt, nat_le, ◌==◌, IsTrue, List, [], ◌∷◌, slice_index, if◌then◌else◌, refl, sym, ap, ◌∙◌, arith}
+use Rattle.std.proofs.Common.{◌≡◌, ℕ, ◌+◌, ◌-◌, ◌%◌, ◌^◌, ◌<◌, ◌≤◌, ◌⊎◌, inl, inr, ◌↔◌, Bool, true, false, ◌&&◌, ◌||◌}
+use Rattle.std.proofs.Common.{nat_lt, nat_le, ◌==◌, IsTrue, List, [], ◌∷◌, slice_index, if◌then◌else◌, refl, sym, ap}
+use Rattle.std.proofs.Common.{◌∙◌, arith}
 use Rattle.std.proofs.Math.Nat.{mod-lt}
 use Rattle.std.proofs.lemmas.Nat.{pow_pos}
 use Rattle.std.proofs.lemmas.Bool.{cases_lt, and_parts}
@@ -7,7 +9,8 @@ use Rattle.std.proofs.lemmas.Bool.Decides.{nat_tests}
 use Rattle.am_domain.specs.Tuple.{IsTuple}
 use Rattle.am_domain.specs.Walk.{steps}
 use Rattle.am_domain.proofs.Laws.{pair-IsTuple, steps-word, steps-cases, steps-on, steps-self}
-use Rattle.am_wrap.specs.WrappedIntervals.{start, end, span, IsOnTheWay, lies_in, both_lie_in, across, round_from, narrower, bridge, wrapped_join}
+use Rattle.am_wrap.specs.WrappedIntervals.{start, end, span, IsOnTheWay, lies_in, both_lie_in, across, round_from}
+use Rattle.am_wrap.specs.WrappedIntervals.{narrower, bridge, wrapped_join}
 
 -- two words are a tuple
 pub ruleset tuples = (pair-IsTuple)

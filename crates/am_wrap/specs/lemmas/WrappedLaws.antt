@@ -1,17 +1,22 @@
 -- The laws of wrapped intervals.
-use Rattle.std.proofs.Common.{◌≡◌, ◌≢◌, ℕ, ◌-◌, ◌^◌, ◌<◌, ◌≤◌, inl, inr, ◌↔◌, true, List, [], ◌∷◌, slice_index, take, nat_lt, nat_le, refl, arith, lit≤}
+use Rattle.std.proofs.Common.{◌≡◌, ◌≢◌, ℕ, ◌-◌, ◌^◌, ◌<◌, ◌≤◌, inl, inr, ◌↔◌, true, List, [], ◌∷◌, slice_index, take}
+use Rattle.std.proofs.Common.{nat_lt, nat_le, refl, arith, lit≤}
 use Rattle.std.proofs.lemmas.Bool.{lt-ltb}
 use Rattle.std.proofs.lemmas.Bool.Decides.{nat_tests}
 use Rattle.std.proofs.lemmas.Nat.{pow_pos}
 use Rattle.am_bv.specs.Words.{IsWidth, one_if}
 use Rattle.am_bv.specs.Terms.{val}
-use Rattle.am_bv.proofs.Laws.{one_is_word, val-Const, val-Field, val-binary, fits-Const, fits-Field, fits-Node, nodes-Const, nodes-Field, nodes-Node}
+use Rattle.am_bv.proofs.Laws.{one_is_word, val-Const, val-Field, val-binary, fits-Const, fits-Field, fits-Node}
+use Rattle.am_bv.proofs.Laws.{nodes-Const, nodes-Field, nodes-Node}
 use Rattle.am_domain.specs.Meaning.{IsAbstract}
-use Rattle.am_domain.specs.Laws.{HasMembers, HasTop, HoldsWords, JoinsAbove, Descends, Tidies, TellsValidity, TellsMembership}
+use Rattle.am_domain.specs.Laws.{HasMembers, HasTop, HoldsWords, JoinsAbove, Descends, Tidies, TellsValidity}
+use Rattle.am_domain.specs.Laws.{TellsMembership}
 use Rattle.am_domain.specs.AnchoredLaws.{HasStart, HasPoints, KeepsStart, WalksMembers, HasParts}
 use Rattle.am_domain.specs.Walk.{steps}
 use Rattle.am_domain.proofs.Laws.{pair-IsTuple, by_three, steps-word, steps-cases, steps-self, Contains-walk}
-use Rattle.am_wrap.specs.WrappedIntervals.{start, end, span, IsOnTheWay, wrapped_intervals, wrapped_top, point, wrapped_join, wrapped_tidy, wrapped_rank, wrapped_valid_term, wrapped_member_term}
+use Rattle.am_wrap.specs.WrappedIntervals.{start, end, span, IsOnTheWay, wrapped_intervals, wrapped_top, point}
+use Rattle.am_wrap.specs.WrappedIntervals.{wrapped_join, wrapped_tidy, wrapped_rank, wrapped_valid_term}
+use Rattle.am_wrap.specs.WrappedIntervals.{wrapped_member_term}
 use Rattle.am_wrap.specs.lemmas.Lying.{Lies-members, wider, join-IsAbove}
 
 -- each tuple is a value

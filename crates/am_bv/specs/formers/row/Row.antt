@@ -36,7 +36,8 @@ the_items_listed X xs = list-listed X xs
 
 -- the one field, a vector, as a former
 abbrev stored : Former {0}
-stored = via (vec.the_former this Global) Inside (λ X r. r.items) (λ X v. record { items = v }) (λ X r. refl) (λ X v. refl)
+stored =
+    via (vec.the_former this Global) Inside (λ X r. r.items) (λ X v. record { items = v }) (λ X r. refl) (λ X v. refl)
 
 -- what changes where each item is replaced by its image
 module _ (R S : RattleType) (image : R.Denot → S.Denot) where
@@ -46,7 +47,9 @@ module _ (R S : RattleType) (image : R.Denot → S.Denot) where
       view_places stored (list this) view (λ X Y k u. refl) (λ X u. refl) R.Denot S.Denot image
       (row.the_row R).coded (row.the_row S).coded (invariant R.Denot) (invariant S.Denot)
       (λ u p q. refl) (λ u p q. refl) (λ u e. tt) (λ u e. tt) (over (inside.the_row R)) (over (inside.the_row S))
-      (struct_places (inside.the_type R) (inside.the_type S) (vec.mapped image, tt) _ (λ d. refl) refl (laid _ _ _ of_vec, tt))
+      (struct_places (inside.the_type R) (inside.the_type S) (vec.mapped image, tt) _ (λ d. refl) refl
+      (laid _ _ _ of_vec, tt))
 
-  pub the_codes_placed : Recodes R S image → Recodes (row.the_row R) (row.the_row S) ((the_former this).map R.Denot S.Denot image)
+  pub the_codes_placed : Recodes R S image →
+      Recodes (row.the_row R) (row.the_row S) ((the_former this).map R.Denot S.Denot image)
   the_codes_placed recodes xs = sym (code_map R.coded.code S.coded.code image (λ x. sym (recodes x)) xs)

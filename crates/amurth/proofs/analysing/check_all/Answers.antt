@@ -1,4 +1,4 @@
-use Rattle.std.proofs.Common.{Err, ap, length, subst, take, ◌∙◌}
+use Rattle.std.proofs.Common.{Err, ap, subst, ◌∙◌}
 use Rattle.std.specs.Prelude.{All}
 use Rattle.std.proofs.lemmas.List.{take_all}
 use Rattle.std.proofs.lemmas.Result.{err_from_is_err_and}

@@ -1,4 +1,4 @@
-use Rattle.std.proofs.Common.{◌≡◌, ◌++◌, [], ◌∷◌, ap, get_or, map, sym, take, ◌∙◌}
+use Rattle.std.proofs.Common.{◌++◌, [], ◌∷◌, ap, get_or, map, sym, take, ◌∙◌}
 use Rattle.std.proofs.lemmas.List.{map-append, take_more}
 use Rattle.am_cert.specs.Certificate.{Certificate, IsCertificate}
 use Rattle.am_flow.specs.Stored.{seen_operation, seen_operations}

@@ -1,4 +1,4 @@
-use Rattle.std.proofs.Common.{length, map, ap, cond, le-ltb, refl, sym, ◌∙◌}
+use Rattle.std.proofs.Common.{length, ap, cond, le-ltb, ◌∙◌}
 use Rattle.std.proofs.lemmas.List.{length-map}
 use Rattle.am_cert.specs.StoredDraft.{seen_draft}
 use Rattle.am_cert.specs.Texts.{Draft, draft}
@@ -6,7 +6,6 @@ use Rattle.am_syntax.specs.Readers.{Read, judged}
 use Rattle.am_syntax.specs.Texts.{refusal_at}
 use Rattle.am_syntax.specs.declared.refusal.Cause.TheVariants.{Count}
 use Rattle.am_syntax.proofs.Laws.{refused_alike}
-use Rattle.am_text.specs.Tokens.{next_place}
 use Rattle.std.proofs.Common.{Err, nat_lt}
 use Rattle.amurth.specs.declared.limits.TheConstants.{MOST_CERTIFICATES}
 use Rattle.amurth.proofs.inputs.certificate_behind.Goals as goal

@@ -1,4 +1,4 @@
-use Rattle.std.proofs.Common.{◌≤◌, length, map, subst, sym, ◌∙◌}
+use Rattle.std.proofs.Common.{◌≤◌, map, subst, sym, ◌∙◌}
 use Rattle.std.proofs.lemmas.List.{length-map}
 use Rattle.am_cert.specs.StoredDraft.{seen_draft}
 use Rattle.am_flow.specs.Flows.{IsFlow}

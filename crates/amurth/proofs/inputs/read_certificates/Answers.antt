@@ -1,8 +1,7 @@
-use Rattle.std.proofs.Common.{◌≡◌, List, [], ◌∷◌, ◌++◌, Err, codes, map, length, ap, subst, sym, arith, length-append, ◌∙◌}
-use Rattle.std.proofs.lemmas.List.{length-map, map-append}
+use Rattle.std.proofs.Common.{[], ◌∷◌, Err, codes, map, ap, sym, arith, length-append, ◌∙◌}
+use Rattle.std.proofs.lemmas.List.{map-append}
 use Rattle.std.proofs.lemmas.Result.{err_from_is_err_and}
 use Rattle.am_cert.specs.StoredDraft.{seen_draft}
-use Rattle.am_cert.specs.Texts.{Draft}
 use Rattle.am_syntax.specs.Pieces.{next_is, repeat_from}
 use Rattle.am_syntax.proofs.Laws.{so_far_done, so_far_more}
 use Rattle.amurth.specs.Analysed.{certificate_behind}

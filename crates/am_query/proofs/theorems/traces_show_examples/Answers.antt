@@ -1,0 +1,5 @@
+use Rattle.am_query.proofs.Laws.{traces_show}
+use Rattle.am_query.proofs.theorems.traces_show_examples.Goals as goal
+
+pub returns : goal.returns
+returns c = traces_show

@@ -1,0 +1,24 @@
+//! Tests of circuits, grammars and templates, with values of an independent reference.
+//!
+//! They stand apart from the crates that they test, since a crate with tests is proved twice, once with them and once
+//! without. They use public calls alone.
+#![tactic(auto)]
+
+#[cfg(test)]
+mod circuit_table;
+#[cfg(test)]
+mod circuits;
+#[cfg(test)]
+mod clauses;
+#[cfg(test)]
+mod gates;
+#[cfg(test)]
+mod grammars;
+#[cfg(test)]
+mod template_table;
+#[cfg(test)]
+mod templates;
+#[cfg(test)]
+mod tree_sums;
+#[cfg(test)]
+mod trees;

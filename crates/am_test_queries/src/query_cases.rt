@@ -1,0 +1,24 @@
+//! Small problems, and what an independent reference has of their queries.
+
+pub mod congruences_and_parities;
+pub mod known_bits;
+pub mod products;
+pub mod signed_and_wrapped_intervals;
+pub mod unsigned_intervals;
+
+/// A problem with examples, and what is then said of its queries.
+///
+/// A positive example is `+`, the fields of all inputs, `/` and a word for each input; a negative one is `-`, the
+/// fields, `/` and a word. Each digit is a word.
+pub struct Case {
+    /// The problem's lines between `width` and `end`.
+    pub problem: &'static str,
+    /// Examples that one transformer alone satisfies.
+    pub alone: &'static str,
+    /// Further examples.
+    pub given: &'static str,
+    /// A line for a fit of the further examples, for the soundness of the transformer, and for its precision beside
+    /// the further examples: the number of variables and the sum of the folded formula and of the plain one, and the
+    /// answer.
+    pub said: &'static str,
+}
