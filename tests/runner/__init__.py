@@ -1,0 +1,1 @@
+"""Runs the built program on the cases of `tests/cases` and compares exit status and every byte."""
