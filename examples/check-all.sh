@@ -1,9 +1,9 @@
 #!/bin/sh
-# Synthesises a transformer for each problem of this folder, and checks each certificate.
+# Synthesises a transformer for each problem of this folder, and checks each certificate. The program may be named.
 set -eu
-cd "$(dirname "$0")"
-amurth=${1:-../crates/amurth/out/amurth}
-for problem in *.amurth; do
-    printf '%s: ' "$problem"
+folder=$(dirname "$0")
+amurth=${1:-$folder/../crates/amurth/out/amurth}
+for problem in "$folder"/*.amurth; do
+    printf '%s: ' "$(basename "$problem")"
     "$amurth" synth < "$problem" | "$amurth" check
 done

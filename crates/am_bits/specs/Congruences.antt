@@ -10,6 +10,7 @@ use Rattle.am_bv.specs.declared.op.Op.TheVariants.{Add, And, Eq, Not, Xor}
 use Rattle.am_bv.specs.declared.term.Term.{Term}
 use Rattle.am_bv.specs.declared.term.Term.TheVariants.{Const, Field}
 use Rattle.am_bv.specs.Terms.{unary, binary}
+use Rattle.am_domain.specs.Abstraction.{Abstraction}
 use Rattle.am_domain.specs.Meaning.{Meaning}
 
 abbrev pub mask : List ℕ → ℕ
@@ -82,3 +83,17 @@ congruence_valid_term =
 -- the word and the residue differ on no bit of the mask
 abbrev pub congruence_member_term : Term
 congruence_member_term = binary Eq (binary And (binary Xor (Field 2) (Field 1)) (Field 0)) (Const 0)
+
+-- congruences as a domain
+abbrev pub all_congruences : Abstraction
+all_congruences = record {
+  meaning = congruences;
+  top = λ w. congruence_top;
+  of_word = congruence_of_word;
+  some_member = λ w. residue;
+  join = congruence_join;
+  tidy = λ w. congruence_tidy;
+  rank = λ w. congruence_rank;
+  valid_term = λ w. congruence_valid_term;
+  member_term = λ w. congruence_member_term;
+}

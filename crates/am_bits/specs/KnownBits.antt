@@ -8,6 +8,7 @@ use Rattle.am_bv.specs.declared.op.Op.TheVariants.{And, Eq}
 use Rattle.am_bv.specs.declared.term.Term.{Term}
 use Rattle.am_bv.specs.declared.term.Term.TheVariants.{Const, Field}
 use Rattle.am_bv.specs.Terms.{binary}
+use Rattle.am_domain.specs.Abstraction.{Abstraction}
 use Rattle.am_domain.specs.Meaning.{Meaning}
 
 abbrev pub zeros : List ℕ → ℕ
@@ -59,3 +60,17 @@ known_member_term =
     let clear = binary Eq (binary And (Field 2) (Field 0)) (Const 0) in
     let set = binary Eq (binary And (Field 2) (Field 1)) (Field 1) in
     binary And clear set
+
+-- known bits as a domain
+abbrev pub all_known_bits : Abstraction
+all_known_bits = record {
+  meaning = known_bits;
+  top = λ w. known_top;
+  of_word = known_of_word;
+  some_member = λ w. ones;
+  join = λ w. known_join;
+  tidy = λ w. known_tidy;
+  rank = λ w. known_rank;
+  valid_term = λ w. known_valid_term;
+  member_term = λ w. known_member_term;
+}

@@ -8,6 +8,7 @@ use Rattle.am_bv.specs.declared.op.Op.TheVariants.{And, Lshr, Ule}
 use Rattle.am_bv.specs.declared.term.Term.{Term}
 use Rattle.am_bv.specs.declared.term.Term.TheVariants.{Const, Field}
 use Rattle.am_bv.specs.Terms.{binary}
+use Rattle.am_domain.specs.Abstraction.{Abstraction}
 use Rattle.am_domain.specs.Meaning.{Meaning}
 
 -- p is 1, 2 or 3
@@ -53,3 +54,17 @@ parity_valid_term = binary And (binary Ule (Const 1) (Field 0)) (binary Ule (Fie
 -- p shifted to the bit that stands for the word
 abbrev pub parity_member_term : Term
 parity_member_term = binary And (binary Lshr (Field 0) (binary And (Field 1) (Const 1))) (Const 1)
+
+-- parities as a domain
+abbrev pub all_parities : Abstraction
+all_parities = record {
+  meaning = parities;
+  top = λ w. parity_top;
+  of_word = λ w. parity_of_word;
+  some_member = λ w. parity_some_member;
+  join = λ w. parity_join;
+  tidy = λ w. parity_tidy;
+  rank = λ w. parity_rank;
+  valid_term = λ w. parity_valid_term;
+  member_term = λ w. parity_member_term;
+}

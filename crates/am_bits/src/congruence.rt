@@ -1,11 +1,8 @@
 //! Congruences modulo powers of two.
 
 ghost use Rattle.std.specs.Prelude.{◌≡◌};
-ghost use Rattle.std.proofs.Common.{lit≤};
-ghost use Rattle.am_bits.specs.Congruences.{congruences, low, modulo, congruence_top, congruence_of_word, residue};
-ghost use Rattle.am_bits.specs.Congruences.{congruence_join, congruence_tidy, congruence_rank, congruence_valid_term};
-ghost use Rattle.am_bits.specs.Congruences.{congruence_member_term};
-ghost use Rattle.am_bits.specs.lemmas.CongruenceLaws as laws;
+ghost use Rattle.am_bits.specs.Congruences.{all_congruences, low, modulo};
+ghost use Rattle.am_bits.specs.lemmas.CongruenceLaws.{congruence_laws};
 
 use am_bv::{Op, Term, Width};
 use am_domain::{Domain, Fields};
@@ -17,23 +14,7 @@ use std::alloc::{AllocError, Global};
 pub struct Congruence;
 
 impl Domain for Congruence {
-    ghost meaning = { λ _. congruences };
-
-    ghost top = { λ _ w. congruence_top };
-
-    ghost of_word = { λ _. congruence_of_word };
-
-    ghost some_member = { λ _ w. residue };
-
-    ghost join = { λ _. congruence_join };
-
-    ghost tidy = { λ _ w. congruence_tidy };
-
-    ghost rank = { λ _ w. congruence_rank };
-
-    ghost valid_term = { λ _ w. congruence_valid_term };
-
-    ghost member_term = { λ _ w. congruence_member_term };
+    ghost abstraction = { λ _. all_congruences };
 
     fn fields(&self) -> u32 {
         2
@@ -89,23 +70,7 @@ impl Domain for Congruence {
         Term::binary(alloc, Op::Eq, masked, Term::Const(0))
     }
 
-    ghost has_fields = { λ _. lit≤ tt };
-
-    ghost has_members = { λ _. laws.has_members };
-
-    ghost has_top = { λ _. laws.has_top };
-
-    ghost holds_words = { λ _. laws.holds_words };
-
-    ghost joins_above = { λ _. laws.joins_above };
-
-    ghost descends = { λ _. laws.descends };
-
-    ghost tidies = { λ _. laws.tidies };
-
-    ghost tells_validity = { λ _. laws.tells_validity };
-
-    ghost tells_membership = { λ _. laws.tells_membership };
+    ghost keeps_laws = { λ _. congruence_laws };
 }
 
 /// The residue of a number modulo a mask.

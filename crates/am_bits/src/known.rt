@@ -1,9 +1,7 @@
 //! Known bits.
 
-ghost use Rattle.std.proofs.Common.{lit≤};
-ghost use Rattle.am_bits.specs.KnownBits.{known_bits, known_top, known_of_word, ones, known_join, known_tidy};
-ghost use Rattle.am_bits.specs.KnownBits.{known_rank, known_valid_term, known_member_term};
-ghost use Rattle.am_bits.specs.lemmas.KnownLaws as laws;
+ghost use Rattle.am_bits.specs.KnownBits.{all_known_bits};
+ghost use Rattle.am_bits.specs.lemmas.KnownLaws.{known_laws};
 
 use am_bv::{Op, Term, Width};
 use am_domain::{Domain, Fields};
@@ -14,23 +12,7 @@ use std::alloc::{AllocError, Global};
 pub struct Known;
 
 impl Domain for Known {
-    ghost meaning = { λ _. known_bits };
-
-    ghost top = { λ _ w. known_top };
-
-    ghost of_word = { λ _. known_of_word };
-
-    ghost some_member = { λ _ w. ones };
-
-    ghost join = { λ _ w. known_join };
-
-    ghost tidy = { λ _ w. known_tidy };
-
-    ghost rank = { λ _ w. known_rank };
-
-    ghost valid_term = { λ _ w. known_valid_term };
-
-    ghost member_term = { λ _ w. known_member_term };
+    ghost abstraction = { λ _. all_known_bits };
 
     fn fields(&self) -> u32 {
         2
@@ -88,21 +70,5 @@ impl Domain for Known {
         Term::binary(alloc, Op::And, clear, set)
     }
 
-    ghost has_fields = { λ _. lit≤ tt };
-
-    ghost has_members = { λ _. laws.has_members };
-
-    ghost has_top = { λ _. laws.has_top };
-
-    ghost holds_words = { λ _. laws.holds_words };
-
-    ghost joins_above = { λ _. laws.joins_above };
-
-    ghost descends = { λ _. laws.descends };
-
-    ghost tidies = { λ _. laws.tidies };
-
-    ghost tells_validity = { λ _. laws.tells_validity };
-
-    ghost tells_membership = { λ _. laws.tells_membership };
+    ghost keeps_laws = { λ _. known_laws };
 }

@@ -16,8 +16,9 @@
 //! ```
 //!
 //! The definitions stand in `specs/KnownBits.antt`, `specs/Parities.antt` and
-//! `specs/Congruences.antt`. The proofs of the laws are in `specs/lemmas`, for all words and tuples of
-//! every width from 2 to 8. [`theorems`] says what a congruence is in whole numbers.
+//! `specs/Congruences.antt`, each with its domain as a record. The proofs of the laws are in
+//! `specs/lemmas`, for all words and tuples of every width from 2 to 8. [`theorems`] says what a
+//! congruence is in whole numbers.
 //!
 //! # What is proved
 //!

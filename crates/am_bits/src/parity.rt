@@ -1,9 +1,7 @@
 //! Parity.
 
-ghost use Rattle.std.proofs.Common.{lit≤};
-ghost use Rattle.am_bits.specs.Parities.{parities, parity_top, parity_of_word, parity_some_member, parity_join};
-ghost use Rattle.am_bits.specs.Parities.{parity_tidy, parity_rank, parity_valid_term, parity_member_term};
-ghost use Rattle.am_bits.specs.lemmas.ParityLaws as laws;
+ghost use Rattle.am_bits.specs.Parities.{all_parities};
+ghost use Rattle.am_bits.specs.lemmas.ParityLaws.{parity_laws};
 
 use am_bv::{Op, Term, Width};
 use am_domain::{Domain, Fields};
@@ -15,23 +13,7 @@ use std::alloc::{AllocError, Global};
 pub struct Parity;
 
 impl Domain for Parity {
-    ghost meaning = { λ _. parities };
-
-    ghost top = { λ _ w. parity_top };
-
-    ghost of_word = { λ _ w. parity_of_word };
-
-    ghost some_member = { λ _ w. parity_some_member };
-
-    ghost join = { λ _ w. parity_join };
-
-    ghost tidy = { λ _ w. parity_tidy };
-
-    ghost rank = { λ _ w. parity_rank };
-
-    ghost valid_term = { λ _ w. parity_valid_term };
-
-    ghost member_term = { λ _ w. parity_member_term };
+    ghost abstraction = { λ _. all_parities };
 
     fn fields(&self) -> u32 {
         1
@@ -86,21 +68,5 @@ impl Domain for Parity {
         Term::binary(alloc, Op::And, bit, Term::Const(1))
     }
 
-    ghost has_fields = { λ _. lit≤ tt };
-
-    ghost has_members = { λ _. laws.has_members };
-
-    ghost has_top = { λ _. laws.has_top };
-
-    ghost holds_words = { λ _. laws.holds_words };
-
-    ghost joins_above = { λ _. laws.joins_above };
-
-    ghost descends = { λ _. laws.descends };
-
-    ghost tidies = { λ _. laws.tidies };
-
-    ghost tells_validity = { λ _. laws.tells_validity };
-
-    ghost tells_membership = { λ _. laws.tells_membership };
+    ghost keeps_laws = { λ _. parity_laws };
 }

@@ -1,5 +1,5 @@
 -- The laws of what is defined by recursion on a term, kind by kind.
-use Rattle.std.proofs.Common.{◌≡◌, ℕ, subst, lit≤, ◌+◌, ◌^◌, ◌<◌, ◌≤◌, Bool, ◌&&◌, List, [], ◌∷◌, length, map, sum_by, nat_lt, ◌==◌, get_or, IsTrue, ap, ◌∙◌, refl, slice_index, take, arith}
+use Rattle.std.proofs.Common.{◌≡◌, ℕ, subst, lit≤, ◌+◌, ◌^◌, ◌<◌, ◌≤◌, Bool, true, ◌&&◌, List, [], ◌∷◌, length, map, sum_by, nat_lt, ◌==◌, get_or, IsTrue, ap, ◌∙◌, refl, slice_index, take, arith}
 use Rattle.std.specs.List.{list_all}
 use Rattle.std.proofs.lemmas.List.{length-map}
 use Rattle.std.proofs.lemmas.List.Sums.{AllPass-from_list_all, sum-map, sum_by_more_le}
@@ -10,7 +10,7 @@ use Rattle.am_bv.specs.declared.term.Term.{Term, fold-Term, fold_out-Term, map-T
 use Rattle.am_bv.specs.declared.term.Term.TheOpen.{Term-F, Const as Const-F, Field as Field-F, Node as Node-F}
 use Rattle.am_bv.specs.declared.term.Term.TheVariants.{Const, Field, Node, outs-Const, outs-Field, outs-Node}
 use Rattle.am_bv.specs.Operators.{arity, apply, apply_at, weight_of}
-use Rattle.am_bv.specs.Terms.{val, val_step, fits, fits_step, nodes, nodes_step, weight, weight_step, rename, rename_step, unary, binary, ternary}
+use Rattle.am_bv.specs.Terms.{val, val_step, fits, fits_step, has_arities, arities_step, nodes, nodes_step, weight, weight_step, rename, rename_step, unary, binary, ternary}
 
 -- a fold at a term of which one layer is known
 pub fold_at : {A : Type 0} (step : Term-F A → A) (t : Term) (o : Term-F Term) → out-Term t ≡ o →
@@ -47,6 +47,21 @@ fits-Node w n op ts =
     fold_at (fits_step w n) (Node op ts) (Node-F op ts) (outs-Node op ts)
     ∙ ap (λ k. (k == arity op) && list_all (λ b. b) (map (fits w n) ts)) (length-map ts (fits w n))
     ∙ ap (λ b. (length ts == arity op) && b) (all_of_map (fits w n) ts)
+
+pub arities-Const : (c : ℕ) → has_arities (Const c) ≡ true
+unfolding has_arities
+arities-Const c = fold_at arities_step (Const c) (Const-F c) (outs-Const c)
+
+pub arities-Field : (i : ℕ) → has_arities (Field i) ≡ true
+unfolding has_arities
+arities-Field i = fold_at arities_step (Field i) (Field-F i) (outs-Field i)
+
+pub arities-Node : (op : Op) (ts : List Term) → has_arities (Node op ts) ≡ ((length ts == arity op) && list_all has_arities ts)
+unfolding has_arities
+arities-Node op ts =
+    fold_at arities_step (Node op ts) (Node-F op ts) (outs-Node op ts)
+    ∙ ap (λ k. (k == arity op) && list_all (λ b. b) (map has_arities ts)) (length-map ts has_arities)
+    ∙ ap (λ b. (length ts == arity op) && b) (all_of_map has_arities ts)
 
 pub nodes-Const : (c : ℕ) → nodes (Const c) ≡ 1
 unfolding nodes
@@ -113,4 +128,4 @@ fits_child w n op ts h i t below is =
 pub nodes_up_to : (op : Op) (ts : List Term) (i : ℕ) (t : Term) → i < length ts → t ≡ get_or ts i t → 1 + sum_by nodes (take i ts) + nodes t ≤ nodes (Node op ts)
 nodes_up_to op ts i t below is = omega (arith, nodes-Node op ts, sum_by_more_le nodes ts i t below, ap nodes is)
 
-pub ruleset laws = (val-Const, val-Field, val-Node, fits-Const, fits-Field, fits-Node, nodes-Const, nodes-Field, nodes-Node, weight-Const, weight-Field, weight-Node, rename-Const, rename-Field, rename-Node)
+pub ruleset laws = (val-Const, val-Field, val-Node, fits-Const, fits-Field, fits-Node, arities-Const, arities-Field, arities-Node, nodes-Const, nodes-Field, nodes-Node, weight-Const, weight-Field, weight-Node, rename-Const, rename-Field, rename-Node)

@@ -17,7 +17,7 @@ field-below : (w n i : ℕ) → IsTrue (fits w n (Field i)) → i < n
 field-below w n i fit = ltb-true i n (subst IsTrue (fits-Field w n i) fit)
 
 -- the arguments of a term that fits
-arguments-fit : (w n : ℕ) (op : Op) (ts : List Term) → IsTrue (fits w n (Node op ts)) → list_all (fits w n) ts ≡ true
+pub arguments-fit : (w n : ℕ) (op : Op) (ts : List Term) → IsTrue (fits w n (Node op ts)) → list_all (fits w n) ts ≡ true
 arguments-fit w n op ts fit = (and_parts _ _ (subst IsTrue (fits-Node w n op ts) fit)).1
 
 module _ (w m n : ℕ) (most : m ≤ n) where

@@ -3,6 +3,7 @@ pub mod ByKind
 pub mod Induction
 pub mod Values
 pub mod Fields
+pub mod Arities
 pub mod Operators
 pub mod Same
 pub mod Shifts

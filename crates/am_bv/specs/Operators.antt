@@ -11,8 +11,27 @@ use Rattle.am_bv.specs.Words.{signed, complement, one_if}
 abbrev pub arity : Op → ℕ
 arity Not = 1
 arity Neg = 1
+arity And = 2
+arity Or = 2
+arity Xor = 2
+arity Add = 2
+arity Sub = 2
+arity Mul = 2
+arity Udiv = 2
+arity Urem = 2
+arity Shl = 2
+arity Lshr = 2
+arity Ashr = 2
+arity Eq = 2
+arity Ult = 2
+arity Ule = 2
+arity Slt = 2
+arity Sle = 2
+arity Umin = 2
+arity Umax = 2
+arity Smin = 2
+arity Smax = 2
 arity Ite = 3
-arity _ = 2
 
 -- a shifted left by b bits
 abbrev pub shl_of : ℕ → ℕ → ℕ → ℕ
@@ -74,4 +93,10 @@ weight_of w Umin = 4 * w
 weight_of w Umax = 4 * w
 weight_of w Smin = 4 * w
 weight_of w Smax = 4 * w
-weight_of w _ = 3 * w
+weight_of w Neg = 3 * w
+weight_of w Add = 3 * w
+weight_of w Sub = 3 * w
+weight_of w Ult = 3 * w
+weight_of w Ule = 3 * w
+weight_of w Slt = 3 * w
+weight_of w Sle = 3 * w

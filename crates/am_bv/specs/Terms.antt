@@ -1,5 +1,5 @@
 -- Terms, each word of them a fold: one step at a node, over what the step gave at its arguments.
-use Rattle.std.specs.Prelude.{ℕ, ◌+◌, ◌^◌, Bool, ◌&&◌, List, length, slice_index, slice_index_or, [], ◌∷◌, sum, nat_lt}
+use Rattle.std.specs.Prelude.{ℕ, ◌+◌, ◌^◌, Bool, true, ◌&&◌, List, length, slice_index, slice_index_or, [], ◌∷◌, sum, nat_lt}
 use Rattle.std.specs.Prelude.{◌==◌}
 use Rattle.std.specs.List.{list_all}
 use Rattle.am_bv.specs.declared.term.Term.{Term, fold-Term}
@@ -35,6 +35,15 @@ fits_step w n (Node op fit) = (length fit == arity op) && list_all (λ b. b) fit
 -- whether each constant is below 2 ^ w, each field below n, and each operator has as many arguments as its arity
 unfoldable pub fits : ℕ → ℕ → Term → Bool
 fits w n t = fold-Term Bool (fits_step w n) t
+
+abbrev pub arities_step : Term-F Bool → Bool
+arities_step (Const c) = true
+arities_step (Field i) = true
+arities_step (Node op right) = (length right == arity op) && list_all (λ b. b) right
+
+-- whether each operator has as many arguments as its arity
+unfoldable pub has_arities : Term → Bool
+has_arities t = fold-Term Bool arities_step t
 
 abbrev pub nodes_step : Term-F ℕ → ℕ
 nodes_step (Const c) = 1

@@ -8,7 +8,7 @@ use Rattle.am_bv.specs.declared.term.Term.TheVariants.{Const, Field, Node}
 use Rattle.am_bv.specs.Words.{AreWords}
 use Rattle.am_bv.specs.Operators.{arity, apply, weight_of}
 use Rattle.am_bv.specs.declared.op.TheConstants.Op.{ALL}
-use Rattle.am_bv.specs.Terms.{val, fits, nodes, weight, rename}
+use Rattle.am_bv.specs.Terms.{val, fits, has_arities, nodes, weight, rename}
 
 -- the value of a term, kind by kind
 abbrev pub ConstHasItsWord : Type 0
@@ -33,6 +33,21 @@ abbrev pub NodeFitsByArguments : Type 0
 NodeFitsByArguments =
     (w n : ℕ) (op : Op) (args : List Term) →
     fits w n (Node op args) ≡ ((length args == arity op) && list_all (fits w n) args)
+
+-- where the operators of a term have as many arguments as their arities, kind by kind
+abbrev pub ConstHasArities : Type 0
+ConstHasArities = (c : ℕ) → IsTrue (has_arities (Const c))
+
+abbrev pub FieldHasArities : Type 0
+FieldHasArities = (i : ℕ) → IsTrue (has_arities (Field i))
+
+abbrev pub NodeHasArities : Type 0
+NodeHasArities =
+    (op : Op) (args : List Term) → has_arities (Node op args) ≡ ((length args == arity op) && list_all has_arities args)
+
+-- they have in a term that fits
+abbrev pub FittingTermsHaveArities : Type 0
+FittingTermsHaveArities = (w n : ℕ) (t : Term) → IsTrue (fits w n t) → IsTrue (has_arities t)
 
 -- the number of nodes, kind by kind
 abbrev pub ConstIsOneNode : Type 0

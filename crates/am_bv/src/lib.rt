@@ -27,11 +27,18 @@
 //! bit. The value of a term, when it fits a width and a number of fields, its nodes and its weight
 //! are folds over the term. [`value`] and [`Op::apply`] equal these definitions, although the code
 //! works with masks and wrapping bytes. [`Op::arity`], [`Op::weight`], [`Term::fits`],
-//! [`Term::weight`] equal theirs; [`Term::nodes`] is the number of nodes, or 2^32 where there are
-//! more. [`Term::copy`] gives an equal term, and [`Term::rename`] the term with other fields.
-//! [`Term::equals`], which is what `==` answers, holds exactly where the terms are the same.
-//! [`Width::new`] is `None` exactly outside 2 to 8. A [`Row`] is the list of its items, unchanged
-//! by a refused push.
+//! [`Term::has_arities`], [`Term::weight`] equal theirs; [`Term::nodes`] is the number of nodes, or
+//! 2^32 where there are more. [`Term::copy`] gives an equal term, and [`Term::rename`] the term with
+//! other fields. [`Term::equals`], which is what `==` answers, holds exactly where the terms are the
+//! same. [`Width::new`] is `None` exactly outside 2 to 8. A [`Row`] is the list of its items,
+//! unchanged by a refused push.
+//!
+//! # What is not
+//!
+//! No clause bounds the stack. [`value`], the methods of a term, `==` and dropping a term call
+//! themselves once for each level of nesting, so that a term of a million nested `not` may end the
+//! process. A reader of terms from outside has to bound their nesting, as that of `am_syntax` does
+//! before it goes down.
 #![tactic(auto)]
 
 mod apply;

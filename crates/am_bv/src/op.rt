@@ -94,8 +94,12 @@ impl Op {
     {
         match self {
             Op::Not | Op::Neg => 1,
+            Op::And | Op::Or | Op::Xor => 2,
+            Op::Add | Op::Sub | Op::Mul | Op::Udiv | Op::Urem => 2,
+            Op::Shl | Op::Lshr | Op::Ashr => 2,
+            Op::Eq | Op::Ult | Op::Ule | Op::Slt | Op::Sle => 2,
+            Op::Umin | Op::Umax | Op::Smin | Op::Smax => 2,
             Op::Ite => 3,
-            _ => 2,
         }
     }
 

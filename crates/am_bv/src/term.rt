@@ -1,7 +1,8 @@
 //! Terms over a row of fields.
 
 ghost use Rattle.std.specs.Prelude.{◌≡◌, ◌*◌, ◌^◌, ◌<◌, ◌≤◌, ◌↔◌, IfOk, IsTrue, min};
-ghost use Rattle.am_bv.specs.Terms.{binary, fits, nodes, rename, ternary, unary, weight};
+ghost use Rattle.am_bv.specs.Operators.{arity};
+ghost use Rattle.am_bv.specs.Terms.{binary, fits, has_arities, nodes, rename, ternary, unary, weight};
 
 use crate::op::Op;
 use crate::row::Row;
@@ -23,8 +24,9 @@ pub enum Term {
 pub type Terms = Row<Term>;
 
 impl Term {
-    /// An operator at one argument.
+    /// An operator at the one argument that it takes.
     pub fn unary(alloc: Global, op: Op, argument: Term) -> Result<Term, AllocError>
+        requires { arity op ≡ 1 }
         ensures { IfOk result (λ t. t ≡ unary op argument) }
     {
         let mut args = Row::new(alloc);
@@ -32,8 +34,9 @@ impl Term {
         Ok(Term::Node(op, args))
     }
 
-    /// An operator at two arguments.
+    /// An operator at the two arguments that it takes.
     pub fn binary(alloc: Global, op: Op, first: Term, second: Term) -> Result<Term, AllocError>
+        requires { arity op ≡ 2 }
         ensures { IfOk result (λ t. t ≡ binary op first second) }
     {
         let mut args = Row::new(alloc);
@@ -42,7 +45,7 @@ impl Term {
         Ok(Term::Node(op, args))
     }
 
-    /// An operator at three arguments.
+    /// An operator at the three arguments that it takes.
     pub fn ternary(
         alloc: Global,
         op: Op,
@@ -50,6 +53,7 @@ impl Term {
         second: Term,
         third: Term,
     ) -> Result<Term, AllocError>
+        requires { arity op ≡ 3 }
         ensures { IfOk result (λ t. t ≡ ternary op first second third) }
     {
         let mut args = Row::new(alloc);
@@ -78,6 +82,23 @@ impl Term {
         }
     }
 
+    /// Whether each operator has as many arguments as it takes.
+    #[tactic(auto, using(crate::proofs::ByKind::laws))]
+    pub fn has_arities(&self) -> bool
+        ensures { result ≡ has_arities self.now }
+    {
+        match self {
+            Term::Const(_) | Term::Field(_) => true,
+            Term::Node(op, args) => {
+                let mut right = args.len() == op.arity() as usize;
+                for t in args.as_slice() {
+                    right = right && t.has_arities();
+                }
+                right
+            }
+        }
+    }
+
     /// The number of operators and leaves, or 2^32 where there are more.
     #[tactic(auto, using(crate::proofs::ByKind::laws))]
     pub fn nodes(&self) -> u64
@@ -95,7 +116,8 @@ impl Term {
         }
     }
 
-    /// The number of gates in its circuit, which is the sum of its operators' weights.
+    /// The sum of its operators' weights at this width, which is at most 288 for each node. It is asked
+    /// of terms with fewer than 2^32 nodes, where the sum can't wrap.
     #[tactic(auto, using(crate::proofs::ByKind::laws))]
     pub fn weight(&self, w: Width) -> u64
         requires { nodes self.now < 2 ^ 32 }

@@ -2,6 +2,7 @@
 //! laws, and a call brings them into the caller's proof.
 
 ghost use Rattle.am_bv.specs.Theorems.{ConstHasItsWord, FieldHasItsEntry, NodeHasItsOperatorsValue, ConstFitsAsWord};
+ghost use Rattle.am_bv.specs.Theorems.{ConstHasArities, FieldHasArities, FittingTermsHaveArities, NodeHasArities};
 ghost use Rattle.am_bv.specs.Theorems.{FieldFitsInRow, NodeFitsByArguments, ConstIsOneNode, FieldIsOneNode};
 ghost use Rattle.am_bv.specs.Theorems.{NodeCountsItsArguments, ConstWeighsNothing, FieldWeighsNothing};
 ghost use Rattle.am_bv.specs.Theorems.{NodeWeighsItsOperators, OperatorsGiveWords, FittingTermsGiveWords};
@@ -21,6 +22,15 @@ pub fn fits_by_kind()
     ensures constant { ConstFitsAsWord }
     ensures field { FieldFitsInRow }
     ensures node { NodeFitsByArguments }
+{}
+
+/// When the operators of a term have as many arguments as they take, at each of its kinds and where it
+/// fits.
+pub fn arities_by_kind()
+    ensures constant { ConstHasArities }
+    ensures field { FieldHasArities }
+    ensures node { NodeHasArities }
+    ensures fits { FittingTermsHaveArities }
 {}
 
 /// How many nodes a term of each kind has.

@@ -39,9 +39,7 @@ module _ (p : Problem) (is : IsProblem p) where
   fits : (o : Outcome) → CanBeWritten o → FitsInto p o
   fits (Best t trace sound_log best_log) good =
       let stored = best_stored t trace sound_log best_log good in
-      let rows : AreRows p (after_trace trace) =
-      record { positives = stored.positives; negatives = stored.negatives } in
-      (best_counted t trace sound_log best_log good, rows)
+      record { positives = stored.positives; negatives = stored.negatives }
   fits (Absent trace log) good =
       let stored = absent_stored trace log good in
       record { positives = stored.positives; negatives = stored.negatives }

@@ -1,5 +1,5 @@
 -- Terms that are given by trees, one from each start.
-use Rattle.std.proofs.Common.{◌≡◌, ℕ, ◌+◌, ◌<◌, ◌≤◌, false, true, List, get_or, length, take, zip, arith}
+use Rattle.std.proofs.Common.{◌≡◌, ℕ, ◌+◌, ◌<◌, ◌≤◌, false, true, inl, List, get_or, length, take, zip, arith}
 use Rattle.std.specs.Prelude.{Option, None, Some, is_some, slice_get}
 use Rattle.std.specs.List.{All}
 use Rattle.std.proofs.lemmas.Option.{get_or_from_slice_get}
@@ -34,7 +34,10 @@ module _ (p : Problem) (terms : List Term) (i : ℕ) (counted : length terms ≡
   count = omega (arith, counted, length-zip p.starts terms)
 
   pub all_inside : length terms ≤ i → (terms_inside p terms).Passes
-  all_inside past = good_passes Given (zip p.starts terms) i so_far TermOutside (omega (arith, count, past))
+  all_inside past = (
+    good_passes Given (zip p.starts terms) i so_far TermOutside (omega (arith, count, past)),
+    counted,
+  )
 
   module _ (start : ℕ) (term : Term) (found : Option Tree) (within : i < length terms)
       (there : slice_get p.starts i ≡ Some start) (here : term ≡ get_or terms i term)
@@ -53,5 +56,5 @@ module _ (p : Problem) (terms : List Term) (i : ℕ) (counted : length terms ≡
 
     pub term_outside : is_some found ≡ false → (terms_inside p terms).Fails (TermOutside i)
     term_outside none =
-        bad_fails Given (zip p.starts terms) i so_far (start, term) inside both TermOutside
-        (none_given p start term found is none)
+        inl (bad_fails Given (zip p.starts terms) i so_far (start, term) inside both TermOutside
+        (none_given p start term found is none))

@@ -3,10 +3,10 @@ use Rattle.std.proofs.Common.{◌≡◌, ℕ, ◌-◌, ◌*◌, ◌^◌, ◌<◌
 use Rattle.std.proofs.Math.Nat.{min-le_right, mul-le-mul_left}
 use Rattle.std.proofs.lemmas.Nat.{pow_pos}
 use Rattle.am_syntax.specs.Exact.{IsExact, always}
-use Rattle.am_syntax.specs.Pieces.{Piece, below, number, number_judge}
-use Rattle.am_syntax.specs.Readers.{Advances, Words}
+use Rattle.am_syntax.specs.Pieces.{Piece, below, number}
+use Rattle.am_syntax.specs.Readers.{Words}
 use Rattle.am_syntax.specs.Spelling.{IsScope, scope_of}
-use Rattle.am_syntax.proofs.Laws.{below_law, decimal-is_digits, judged_advances, narrow, number_law, repeat_law, term_law, times_law}
+use Rattle.am_syntax.proofs.Laws.{below_law, decimal-is_digits, narrow, number_law, repeat_law, term_law, times_law}
 use Rattle.am_cert.specs.Grammar.{Shape, is_number_next, place_behind, places, result_term, term_limits}
 use Rattle.am_cert.specs.Grammar.{terms, word, words}
 use Rattle.am_cert.specs.inside.Shapes.{IsShape}
@@ -42,11 +42,6 @@ terms_law s is = times_law (λ seen. result_term_law s is) (λ _ _ _ _. tt) s.fi
 -- a word is a small number
 pub small_word : (w : ℕ) → w ≤ 8 → 2 ^ w - 1 < 2 ^ 64
 small_word w h = narrow w (2 ^ w - 1) h (omega (arith, pow_pos w))
-
--- a word goes forward alone, whatever the width
-pub word_advances : (s : Shape) → Advances (word s).read
-unfolding number
-word_advances s = judged_advances (number_judge 0 (2 ^ s.width - 1))
 
 pub word_law : (s : Shape) → IsShape s → IsExact (word s) always
 word_law s is = number_law 0 (2 ^ s.width - 1) (small_word s.width is.width)

@@ -5,7 +5,7 @@ use Rattle.std.proofs.Common.{refl, sym, ap, subst, arith, inl, inr, lit≤}
 use Rattle.std.specs.Prelude.{IsTrue, Option, None, Some}
 use Rattle.std.specs.List.{AllByRecursion, AllZip}
 use Rattle.std.proofs.Math.Nat.{mul-le-mul_right, one-le-pow, pow-le-pow_right, pow-succ'}
-use Rattle.std.proofs.lemmas.Bool.{and_parts, cases_lt, eqb-true, leb-true}
+use Rattle.std.proofs.lemmas.Bool.{and_parts, cases_lt, eqb-true}
 use Rattle.std.proofs.lemmas.List.{get_or_past}
 use Rattle.std.proofs.lemmas.List.Elements.{All-cons, All-nil}
 use Rattle.std.proofs.lemmas.List.Sums.{sum_by-cons}
@@ -26,7 +26,7 @@ use Rattle.am_tree.specs.Trees.{term_of, terms_at}
 use Rattle.am_tree.specs.declared.grammar.Production.{Production}
 use Rattle.am_tree.specs.declared.grammar.Production.TheVariants.{Leaf, Node}
 use Rattle.am_tree.specs.declared.tree.Tree.{Tree}
-use Rattle.am_tree.proofs.Laws.{term-by}
+use Rattle.am_tree.proofs.Laws.{leaf-small, term-by}
 use Rattle.am_problem.specs.Limits.{IsFormed}
 use Rattle.am_problem.specs.Problem.{AreDerivable, Problem}
 
@@ -127,7 +127,7 @@ module _ (p : Problem) (formed : IsFormed p) where
 
   leaf_small : (d n k : ℕ) (t : Term) → production_at p.rules n k ≡ Some (Leaf t) → IsSmall (64 * 4 ^ d) (64 + d) t
   leaf_small d n k t e =
-      let few : nodes t ≤ 64 = leb-true (nodes t) 64 (is_formed n k (Leaf t) e) in
+      let few : nodes t ≤ 64 = leaf-small (length p.rules) t (is_formed n k (Leaf t) e) in
       let four : 0 < 4 = omega arith in
       record { few = omega (arith, few, one-le-pow d 4 four); flat = omega (arith, few, nesting_few t) }
 

@@ -2,14 +2,14 @@
 use Rattle.std.proofs.Common.{◌≡◌, Bool, true, false, cond, List, [], map, Result, Ok, Err, ap, sym, ◌∙◌, refl, subst}
 use Rattle.std.proofs.lemmas.List.{map-id}
 use Rattle.am_text.specs.Tokens.{Left}
-use Rattle.am_syntax.specs.Pieces.{Piece, key, keyed, one_more, syntax}
+use Rattle.am_syntax.specs.Pieces.{Piece, one_more, syntax}
 use Rattle.am_syntax.specs.Exact.{IsExact}
-use Rattle.am_syntax.specs.Readers.{Advances, Fails, Gives, Makes, Reached, Read, Reader, Word, Words, judged, onward}
+use Rattle.am_syntax.specs.Readers.{Gives, Makes, Reached, Reader, Words, judged}
 use Rattle.am_syntax.specs.declared.refusal.Cause.{Cause}
 use Rattle.am_syntax.specs.declared.refusal.Cause.TheVariants.{Count}
 use Rattle.am_syntax.specs.declared.refusal.Failure.{Failure}
-use Rattle.am_syntax.specs.declared.refusal.Failure.TheVariants.{NoMemory, Refused}
-use Rattle.am_syntax.proofs.Laws.{fails_behind, fails_on, key_law, makes_err, ok_is, one_more_law, reached_ok}
+use Rattle.am_syntax.specs.declared.refusal.Failure.TheVariants.{Refused}
+use Rattle.am_syntax.proofs.Laws.{key_law, makes_refused, ok_is, one_more_law, reached_ok}
 use Rattle.am_syntax.proofs.Laws.{refused_alike}
 use Rattle.am_cert.specs.inside.Shown.{room}
 
@@ -17,16 +17,7 @@ use Rattle.am_cert.specs.inside.Shown.{room}
 pub makes_alike : {X Y : Type 0} (view : X → Y) (r : Result X Failure) (old new : Left) (one two : Reader Y) →
     one old ≡ two old → Makes view r old new one → Makes view r old new two
 makes_alike view (Ok x) old new one two alike made = sym alike ∙ made
-makes_alike view (Err (Refused cause)) old new one two alike made = sym alike ∙ made
-makes_alike view (Err NoMemory) old new one two alike made = made
-
--- what a call answers that is refused, or wants memory, where a part is, which was reached
-pub makes_stopped : {A P Y : Type 0} (view : A → Y) (r : Result A Failure) (e : Failure) (old mid left : Left)
-    (part : Read P) (whole : Reader Y) → r ≡ Err e → Reached old mid →
-    ((stop : Cause × Left) → part ≡ Err stop → whole old ≡ Err stop) → Fails e mid left part →
-    Makes view r old left whole
-makes_stopped view r e old mid left part whole is to on fails =
-    makes_err view old left whole e r is (fails_on e old mid left part (whole old) to on fails)
+makes_alike view (Err e) old new one two alike made = λ cause is. sym alike ∙ made cause is
 
 -- what a call answers that is refused
 pub gives_refused : {A Y : Type 0} (view : A → Y) (r : Result A Cause) (cause : Cause) (old left : Left)
@@ -43,27 +34,7 @@ reached_behind {p = p} s t x law read = reached_ok p.read s t x law.advances rea
 pub makes_same : {X : Type 0} (r : Result (List X) Failure) (old new : Left) (reader : Reader (List X)) →
     Makes (map (λ (x : X). x)) r old new reader → Makes (λ xs. xs) r old new reader
 makes_same (Ok xs) old new reader made = made ∙ ap (λ ys. Ok (ys, new)) (map-id xs)
-makes_same (Err (Refused cause)) old new reader made = made
-makes_same (Err NoMemory) old new reader made = made
-
--- what a call answers that reads behind what was read
-pub makes_behind : {A X Y : Type 0} (view : A → Y) (reader : Reader X) (next : X → Reader Y) (old mid left : Left) (x : X)
-    (r : Result A Failure) → Advances reader → reader old ≡ Ok (x, mid) → Makes view r mid left (next x) →
-    Makes view r old left (λ s. onward next (reader s))
-makes_behind view reader next old mid left x (Ok a) forward read made = ap (onward next) read ∙ made
-makes_behind view reader next old mid left x (Err e) forward read made =
-    fails_behind e old mid left reader x next forward read made
-
--- behind a key word
-pub makes_keyed : {A X : Type 0} (view : A → X) (p : Piece X) (word : Word) (old mid left : Left)
-    (r : Result A Failure) →
-    (key word).read old ≡ Ok (tt, mid) → Makes view r mid left p.read → Makes view r old left (keyed word p).read
-makes_keyed view p word old mid left r taken made =
-    makes_behind view (key word).read (λ _. p.read) old mid left tt r (key_law syntax word).advances taken made
-
--- behind a key word
-pub key_reached : (word : Word) (s t : Left) → (key word).read s ≡ Ok (tt, t) → Reached s t
-key_reached word s t e = reached_ok (key word).read s t tt (key_law syntax word).advances e
+makes_same (Err e) old new reader made = made
 
 -- ---- where one more may stand
 
@@ -91,4 +62,4 @@ pub makes_no_room : {A X : Type 0} (view : A → X) (may : Bool) (p : Piece X) (
     (cause : Cause) →
     r ≡ Err (Refused cause) → room may old ≡ Err (cause, left) → Makes view r old left (one_more may p).read
 makes_no_room view may p old left r cause is e =
-    makes_err view old left (one_more may p).read (Refused cause) r is (no_room may p old (cause, left) e)
+    makes_refused view old left (one_more may p).read cause r is (no_room may p old (cause, left) e)

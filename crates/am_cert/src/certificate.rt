@@ -9,8 +9,8 @@ use am_problem::Problem;
 use am_query::Outcome;
 use std::marker::Model;
 
-/// A problem, how its synthesis ended, and the form of its formulas. Contracts see the parts; each certificate can be written, has fewer than
-/// 2^31 chains in each log, and fewer than 2^31 steps in each chain.
+/// A problem, how its synthesis ended, and the form of its formulas. Contracts see the parts; each certificate can be
+/// written, has fewer than 2^31 chains in each log, and fewer than 2^31 steps in each chain.
 #[derive(Drop)]
 pub struct Certificate {
     pub(crate) version: Version,
@@ -34,8 +34,8 @@ impl Model for Certificate {
 }
 
 impl Certificate {
-    /// The certificate of a problem with an outcome of its synthesis. The logs of such an outcome are over formulas that
-    /// fold constants, so a certificate of version 1 with them need not be accepted.
+    /// The certificate of a problem with an outcome of its synthesis. The logs of such an outcome are over formulas
+    /// that fold constants, so a certificate of version 1 with them need not be accepted.
     pub fn new(version: Version, problem: Problem, outcome: Outcome) -> Certificate
         requires { IsWritable problem outcome }
         ensures { result ≡ record { version = version; problem = problem; outcome = outcome } }

@@ -5,6 +5,7 @@ ghost use Rattle.am_problem.specs.StoredDraft.{seen_draft as seen_problem};
 ghost use Rattle.am_problem.specs.Texts.{IfRefused};
 ghost use Rattle.am_text.specs.Tokens.{bad_byte, text_left};
 ghost use Rattle.am_syntax.specs.Readers.{Makes};
+ghost use Rattle.am_syntax.specs.declared.refusal.Failure.TheVariants.{NoMemory};
 ghost use Rattle.am_syntax.specs.Texts.{Answers, MakesAt};
 ghost use Rattle.am_cert.specs.Certificate.{Certificate as Data};
 ghost use Rattle.am_cert.specs.Grammar.{shape_of};
@@ -20,7 +21,7 @@ use crate::shape::Shape;
 use am_domain::Domain;
 use am_problem::{Draft, take_problem};
 use am_query::Outcome;
-use am_syntax::{Failure, ReadError, close, open, placed, take_key};
+use am_syntax::{Failure, ReadError, close, follow, open, placed, take_key};
 use am_text::Cursor;
 use std::alloc::Global;
 
@@ -47,10 +48,7 @@ fn read_answer(
 
 /// A certificate up to its `end`.
 #[tactic(auto, unfolding(crate::specs::Texts::draft))]
-fn take_certificate<'a>(
-    alloc: Global,
-    text: &mut Cursor<'a>,
-) -> Result<CertificateDraft<'a>, Failure>
+fn read_draft<'a>(alloc: Global, text: &mut Cursor<'a>) -> Result<CertificateDraft<'a>, Failure>
     requires { length text.old.tokens < 2 ^ 32 }
     ensures { Makes seen_draft result text.old text.new draft }
 {
@@ -64,12 +62,25 @@ fn take_certificate<'a>(
     })
 }
 
+/// A certificate up to its `end`, where the cursor stays if memory is wanting.
+fn take_certificate<'a>(
+    alloc: Global,
+    text: &mut Cursor<'a>,
+) -> Result<CertificateDraft<'a>, Failure>
+    requires { length text.old.tokens < 2 ^ 32 }
+    ensures read { Makes seen_draft result text.old text.new draft }
+    ensures stays { result ≡ Err NoMemory → text.new ≡ text.old }
+{
+    let mut ahead = text.fork();
+    let read = read_draft(alloc, &mut ahead);
+    follow(text, ahead, read)
+}
+
 /// Reads a certificate up to its `end`, in the middle of a text of fewer than 2^32 tokens.
 ///
 /// # Errors
 ///
-/// `Refused`: the first token that no certificate has here. The cursor stands at it. `NoMemory`: the cursor stands at
-/// some token that the call had reached.
+/// `Refused`: the first token that no certificate has here. The cursor stands at it. `NoMemory`: the cursor stays.
 pub fn certificate_at<'a>(
     alloc: Global,
     c: &mut Cursor<'a>,

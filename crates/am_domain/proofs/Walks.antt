@@ -1,5 +1,5 @@
 -- Words that follow one another modulo 2 ^ w.
-use Rattle.std.proofs.Common.{◌≡◌, ℕ, zero, suc, ◌+◌, ◌-◌, ◌%◌, ◌^◌, ◌<◌, ◌≤◌, ◌⊎◌, inl, inr, ◌↔◌, List, [], ◌∷◌, length, get_or, slice_index, refl, ap, sym, ◌∙◌, subst, arith}
+use Rattle.std.proofs.Common.{◌≡◌, ℕ, zero, suc, ◌+◌, ◌-◌, ◌%◌, ◌^◌, ◌<◌, ◌≤◌, ◌⊎◌, inl, inr, ◌↔◌, List, length, get_or, slice_index, refl, ap, sym, ◌∙◌, arith}
 use Rattle.std.specs.Prelude.{Contains}
 use Rattle.std.proofs.Math.Nat.{mod-add-mod, mod-eq_of_lt, mod-eq-sub-mod, mod-lt}
 use Rattle.std.proofs.lemmas.Bool.{cases_lt}
@@ -38,6 +38,20 @@ steps-on w c d e hc hd he = by_cases _ _ _ _ _ _ _ hc hd he (steps-cases w c d h
 -- no steps lead from a word to itself
 pub steps-self : (w c : ℕ) → c < 2 ^ w → steps w c c ≡ 0
 steps-self w c h = elim (steps-cases w c c h h) [ inl up ↦ omega (arith, up.1) | inr round ↦ absurd (omega (arith, round.0)) ]
+
+-- so many steps lead to the word so many places on
+pub steps-upwards : (w c i : ℕ) → c < 2 ^ w → i < 2 ^ w → steps w c ((c + i) % 2 ^ w) ≡ i
+steps-upwards w c i hc hi =
+    elim (cases_lt (c + i) (2 ^ w)) [
+      | inl less ↦ arrives (c + i) (mod-eq_of_lt less) (omega arith) (inl refl)
+      | inr more ↦ arrives (c + i - 2 ^ w) (mod-eq-sub-mod more ∙ mod-eq_of_lt (omega arith)) (omega arith) (inr (omega arith))
+    ]
+  where
+    arrives : (e : ℕ) → (c + i) % 2 ^ w ≡ e → e < 2 ^ w → (c + i ≡ e) ⊎ (c + i ≡ e + 2 ^ w) → steps w c ((c + i) % 2 ^ w) ≡ i
+    arrives e at he sum = rw at (elim (steps-cases w c e hc he) [
+      | inl up ↦ elim sum [ inl x ↦ omega (arith, up.1) | inr x ↦ absurd (omega (arith, up.0)) ]
+      | inr round ↦ elim sum [ inl x ↦ absurd (omega (arith, round.0)) | inr x ↦ omega (arith, round.1) ]
+    ])
 
 -- so many words
 pub length-upwards : (w n c : ℕ) → length (upwards w n c) ≡ n

@@ -1,26 +1,29 @@
 -- The laws of an abstract domain, over words of every width.
 use Rattle.std.specs.Prelude.{◌≢◌, ℕ, ◌+◌, ◌*◌, ◌^◌, ◌<◌, ◌≤◌, ◌↔◌, Bool, not, ◌==◌, List, [], ◌∷◌, ◌++◌, IsTrue}
 use Rattle.std.specs.Prelude.{MatchOption, take, slice_index}
-use Rattle.std.specs.declared.option.Option.{Option}
 use Rattle.am_bv.specs.Words.{IsWidth}
 use Rattle.am_bv.specs.Terms.{val, fits, nodes}
 use Rattle.am_bv.specs.declared.term.Term.{Term}
-use Rattle.am_domain.specs.Tuple.{IsTuple}
+use Rattle.am_domain.specs.Abstraction.{Abstraction}
 use Rattle.am_domain.specs.Meaning.{Meaning, IsAbstract}
+use Rattle.am_domain.specs.Tuple.{IsTuple}
 
 -- each abstract value has a member
-abbrev pub HasMembers : Meaning → (ℕ → List ℕ → ℕ) → Type 0
-HasMembers m some_member =
-    (w : ℕ) → IsWidth w → (a : List ℕ) → IsAbstract m w a → (some_member w a < 2 ^ w) × m.Member w a (some_member w a)
+abbrev pub HasMembers : Abstraction → Type 0
+HasMembers d =
+    (w : ℕ) → IsWidth w → (a : List ℕ) → IsAbstract d.meaning w a →
+    (d.some_member w a < 2 ^ w) × d.meaning.Member w a (d.some_member w a)
 
 -- the greatest value has all words
-abbrev pub HasTop : Meaning → (ℕ → List ℕ) → Type 0
-HasTop m top = (w : ℕ) → IsWidth w → IsAbstract m w (top w) × ((c : ℕ) → c < 2 ^ w → m.Member w (top w) c)
+abbrev pub HasTop : Abstraction → Type 0
+HasTop d =
+    (w : ℕ) → IsWidth w → IsAbstract d.meaning w (d.top w) × ((c : ℕ) → c < 2 ^ w → d.meaning.Member w (d.top w) c)
 
 -- a word's value has the word
-abbrev pub HoldsWords : Meaning → (ℕ → ℕ → List ℕ) → Type 0
-HoldsWords m of_word =
-    (w : ℕ) → IsWidth w → (c : ℕ) → c < 2 ^ w → IsAbstract m w (of_word w c) × m.Member w (of_word w c) c
+abbrev pub HoldsWords : Abstraction → Type 0
+HoldsWords d =
+    (w : ℕ) → IsWidth w → (c : ℕ) → c < 2 ^ w →
+    IsAbstract d.meaning w (d.of_word w c) × d.meaning.Member w (d.of_word w c) c
 
 -- a value that has the members of both
 pub record IsJoin (m : Meaning) (w : ℕ) (a b joined : List ℕ) : Type 0 where
@@ -29,22 +32,23 @@ pub record IsJoin (m : Meaning) (w : ℕ) (a b joined : List ℕ) : Type 0 where
   pub second : (c : ℕ) → c < 2 ^ w → m.Member w b c → m.Member w joined c
 
 -- the join of two values has the members of both
-abbrev pub JoinsAbove : Meaning → (ℕ → List ℕ → List ℕ → List ℕ) → Type 0
-JoinsAbove m join =
-    (w : ℕ) → IsWidth w → (a b : List ℕ) → IsAbstract m w a → IsAbstract m w b → IsJoin m w a b (join w a b)
+abbrev pub JoinsAbove : Abstraction → Type 0
+JoinsAbove d =
+    (w : ℕ) → IsWidth w → (a b : List ℕ) → IsAbstract d.meaning w a → IsAbstract d.meaning w b →
+    IsJoin d.meaning w a b (d.join w a b)
 
 -- the rank is bounded, and a join that changes a value has a smaller one
-pub record Descends (m : Meaning) (join : ℕ → List ℕ → List ℕ → List ℕ) (rank : ℕ → List ℕ → ℕ) : Type 0 where
-  pub most : (w : ℕ) → IsWidth w → (a : List ℕ) → IsAbstract m w a → rank w a ≤ m.fields * 2 ^ w
-  pub falls : (w : ℕ) → IsWidth w → (a b : List ℕ) → IsAbstract m w a → IsAbstract m w b →
-      join w a b ≢ a → rank w (join w a b) < rank w a
+pub record Descends (d : Abstraction) : Type 0 where
+  pub most : (w : ℕ) → IsWidth w → (a : List ℕ) → IsAbstract d.meaning w a → d.rank w a ≤ d.meaning.fields * 2 ^ w
+  pub falls : (w : ℕ) → IsWidth w → (a b : List ℕ) → IsAbstract d.meaning w a → IsAbstract d.meaning w b →
+      d.join w a b ≢ a → d.rank w (d.join w a b) < d.rank w a
 
 -- what a raw tuple is tidied to: a value with all its members, or nothing where it has none
-abbrev pub Tidies : Meaning → (ℕ → List ℕ → Option (List ℕ)) → Type 0
-Tidies m tidy =
-    (w : ℕ) → IsWidth w → (raw : List ℕ) → IsTuple w m.fields raw →
-    MatchOption (tidy w raw) ((c : ℕ) → c < 2 ^ w → ¬ m.Member w raw c)
-    (λ a. IsAbstract m w a × ((c : ℕ) → c < 2 ^ w → m.Member w raw c → m.Member w a c))
+abbrev pub Tidies : Abstraction → Type 0
+Tidies d =
+    (w : ℕ) → IsWidth w → (raw : List ℕ) → IsTuple w d.meaning.fields raw →
+    MatchOption (d.tidy w raw) ((c : ℕ) → c < 2 ^ w → ¬ d.meaning.Member w raw c)
+    (λ a. IsAbstract d.meaning w a × ((c : ℕ) → c < 2 ^ w → d.meaning.Member w raw c → d.meaning.Member w a c))
 
 -- The indicator of a fact about rows of so many words: a term that fits such rows and isn't 0 exactly where the fact
 -- holds. A domain with so many fields bounds its nodes.
@@ -54,15 +58,30 @@ pub record IsIndicator (w fields row : ℕ) (t : Term) (Holds : List ℕ → Typ
   pub tells : (env : List ℕ) → IsTuple w row env → (val w t env ≢ 0) ↔ Holds env
 
 -- the term for validity, over the fields
-abbrev pub TellsValidity : Meaning → (ℕ → Term) → Type 0
-TellsValidity m valid_term = (w : ℕ) → IsWidth w → IsIndicator w m.fields m.fields (valid_term w) (m.Valid w)
+abbrev pub TellsValidity : Abstraction → Type 0
+TellsValidity d =
+    (w : ℕ) → IsWidth w →
+    IsIndicator w d.meaning.fields d.meaning.fields (d.valid_term w) (d.meaning.Valid w)
 
 -- the term for membership, over the fields and then the word
-abbrev pub TellsMembership : Meaning → (ℕ → Term) → Type 0
-TellsMembership m member_term =
+abbrev pub TellsMembership : Abstraction → Type 0
+TellsMembership d =
     (w : ℕ) → IsWidth w →
-    IsIndicator w m.fields (m.fields + 1) (member_term w)
-    (λ env. m.Member w (take m.fields env) (slice_index env m.fields))
+    IsIndicator w d.meaning.fields (d.meaning.fields + 1) (d.member_term w)
+    (λ env. d.meaning.Member w (take d.meaning.fields env) (slice_index env d.meaning.fields))
+
+-- all laws of an abstract domain
+pub record KeepsLaws (d : Abstraction) : Type 0 where
+  pub has_fields : 1 ≤ d.meaning.fields
+  pub few_fields : d.meaning.fields ≤ 4
+  pub has_members : HasMembers d
+  pub has_top : HasTop d
+  pub holds_words : HoldsWords d
+  pub joins_above : JoinsAbove d
+  pub descends : Descends d
+  pub tidies : Tidies d
+  pub tells_validity : TellsValidity d
+  pub tells_membership : TellsMembership d
 
 -- whether a word is a member of a tuple, as the term for membership tells it
 abbrev pub is_member : ℕ → Term → List ℕ → ℕ → Bool

@@ -4,5 +4,6 @@ pub mod Question
 pub mod Examples
 pub mod CentralLaw
 pub mod Walk
+pub mod Abstraction
 pub mod Laws
 pub mod AnchoredLaws

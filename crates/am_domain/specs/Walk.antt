@@ -13,3 +13,7 @@ upwards w (suc n) c = c ∷ upwards w n ((c + 1) % 2 ^ w)
 -- the walk of a tuple: the words from field 0 upwards to field 1
 abbrev pub walk : ℕ → List ℕ → List ℕ
 walk w a = let first = slice_index a 0 in upwards w (suc (steps w first (slice_index a 1))) first
+
+-- the tuple whose walk is one word
+abbrev pub point : ℕ → List ℕ
+point c = c ∷ c ∷ []

@@ -1,7 +1,7 @@
 //! Which negative examples stay beside a new positive one.
 
 ghost use Rattle.std.specs.Prelude.{ℕ, ◌≡◌, ◌^◌, ◌<◌, ◌≤◌, [], ◌∷◌, ◌++◌, None, IfOk, length};
-ghost use Rattle.am_query.specs.Answers.{IsFitAnswer, IsFitSpent};
+ghost use Rattle.am_query.specs.Answers.{IsFitAnswer, IsSpent};
 ghost use Rattle.am_query.specs.Queries.{AreFitted, input_count};
 ghost use Rattle.am_query.specs.Transformers.{IsTransformerOf, Suits};
 ghost use Rattle.am_query.specs.Turns.{at_places};
@@ -12,7 +12,7 @@ ghost use Rattle.am_drop.specs.inside.Selections.{HasEnough, IsDecision, IsKeepe
 use crate::keeping::Keeping;
 use am_chain::Log;
 use am_problem::{Negatives, Positives, Problem, Transformer};
-use am_query::{FitAnswer, Places, at_places, fit};
+use am_query::{FitAnswer, Places, QueryAnswer, at_places, fit};
 use std::alloc::{AllocError, Global};
 
 /// Takes the negative examples in order, and keeps each where some transformer satisfies the positive ones,
@@ -36,7 +36,7 @@ pub fn keep(
     ensures enough { IfOk result (λ k. 3 ^ input_count p.now (Fit pos.now neg.now) ≤ limit → ¬ IsKeepingSpent k) }
 {
     match fit(alloc, p, pos, &Negatives::new(alloc), limit)? {
-        FitAnswer::Found(term) => {
+        QueryAnswer::Found(term) => {
             let keeper = Keeper {
                 alloc,
                 problem: p,
@@ -47,8 +47,8 @@ pub fn keep(
             let keeping = keeper.keep(term)?;
             Ok(keeping)
         }
-        FitAnswer::Nothing(log) => Ok(Keeping::Nothing(log)),
-        FitAnswer::Spent(log) => Ok(Keeping::Spent {
+        QueryAnswer::Refuted(log) => Ok(Keeping::Nothing(log)),
+        QueryAnswer::Spent(log) => Ok(Keeping::Spent {
             places: Places::new(alloc),
             log,
         }),
@@ -118,13 +118,13 @@ impl Keeper<'_> {
             return Ok(None);
         }
         match self.fit_further(&selection.places, place)? {
-            FitAnswer::Found(term) => {
+            QueryAnswer::Found(term) => {
                 selection.places.push(place)?;
                 selection.term = term;
                 Ok(None)
             }
-            FitAnswer::Nothing(_) => Ok(None),
-            FitAnswer::Spent(log) => {
+            QueryAnswer::Refuted(_) => Ok(None),
+            QueryAnswer::Spent(log) => {
                 selection.places.push(place)?;
                 Ok(Some(log))
             }
@@ -140,7 +140,7 @@ impl Keeper<'_> {
             (at_places self.now.neg.now (places.now ++ place ∷ [])) }
         ensures answer { IfOk result (IsFitAnswer self.now.problem.now self.now.pos.now
             (at_places self.now.neg.now (places.now ++ place ∷ [])) self.now.limit) }
-        ensures enough { IfOk result (λ a. HasEnough self.now → ¬ IsFitSpent a) }
+        ensures enough { IfOk result (λ a. HasEnough self.now → ¬ IsSpent a) }
     {
         let mut examples = at_places(self.alloc, self.neg, places)?;
         examples.push(self.neg.get(place as usize).copy())?;

@@ -1,7 +1,7 @@
 -- How a synthesis goes on by a turn.
-use Rattle.std.proofs.Common.{◌≡◌, ℕ, ◌+◌, ◌<◌, List, [], ◌∷◌, ◌++◌, length, refl, sym, ◌∙◌, ap, subst, arith}
+use Rattle.std.proofs.Common.{◌≡◌, ℕ, ◌+◌, ◌<◌, List, [], ◌∷◌, ◌++◌, length, inl, inr, refl, sym, ◌∙◌, ap, subst, arith}
 use Rattle.std.proofs.Common.{length-append}
-use Rattle.std.proofs.lemmas.List.{map-append}
+use Rattle.std.proofs.lemmas.List.{append-nil, append_assoc, map-append}
 use Rattle.std.proofs.lemmas.List.Elements.{All-push}
 use Rattle.am_bv.specs.declared.term.Term.{Term}
 use Rattle.am_domain.specs.Examples.{Excludes, NoneSatisfies}
@@ -21,7 +21,7 @@ use Rattle.am_dual.specs.Synthesis.{IsTraceWithin}
 use Rattle.am_dual.specs.declared.turns.Synthesis.{Synthesis}
 use Rattle.am_dual.specs.declared.turns.Next.{Next}
 use Rattle.am_dual.specs.declared.turns.Next.TheVariants.{End, Turn as NextTurn}
-use Rattle.am_dual.specs.inside.Underway.{IsNext, IsUnderway, turns_left}
+use Rattle.am_dual.specs.inside.Underway.{GoesOn, IsNext, IsRight, IsUnderway, trace_so_far, turns_left}
 
 -- a transformer that excludes another negative example satisfies it too
 pub with_negative : (p : Problem) (t : List Term) (positives : List Positive) (negatives : List Negative) (e : Negative) →
@@ -123,6 +123,23 @@ module _ (p : Problem) (s : Synthesis) (underway : IsUnderway p p.turns s) where
 
 -- another turn leaves fewer
 pub fewer_left : (p : Problem) (s : Synthesis) (next : Next) → IsUnderway p p.turns s →
-    IsNext p (length s.trace + 1) next → turns_left p next < turns_left p (NextTurn s)
-fewer_left p s (NextTurn further) underway is = omega (arith, underway.within.few, is.1)
+    IsNext p s.trace next → turns_left p next < turns_left p (NextTurn s)
+fewer_left p s (NextTurn further) underway is =
+    let more = ap length is.1.1 in
+    omega (arith, underway.within.few, more, length-append s.trace (is.1.0 ∷ []))
 fewer_left p s (End o) underway is = omega (arith, underway.within.few)
+
+-- what comes next is right, and loses no turn
+pub next_is_right : (p : Problem) (trace : List Turn) (next : Next) → IsNext p trace next → IsRight p next
+next_is_right p trace (NextTurn s) is = is.0
+next_is_right p trace (End o) is = is.0
+
+pub next_goes_on : (p : Problem) (trace : List Turn) (next : Next) → IsNext p trace next → GoesOn trace (trace_so_far next)
+next_goes_on p trace (NextTurn s) is = (is.1.0 ∷ [], is.1.1)
+next_goes_on p trace (End o) (is, inl same) = ([], same ∙ sym (append-nil trace))
+next_goes_on p trace (End o) (is, inr (t, more)) = (t ∷ [], more)
+
+-- turns that go on by turns that go on
+pub goes_on_further : (a b c : List Turn) → GoesOn a b → GoesOn b c → GoesOn a c
+goes_on_further a b c (more, is) (further, then) =
+    (more ++ further, then ∙ ap (λ x. x ++ further) is ∙ append_assoc a more further)

@@ -6,14 +6,13 @@ ghost use Rattle.am_problem.specs.Problem.{question_of};
 ghost use Rattle.am_query.specs.Answers.{IsRefuted};
 ghost use Rattle.am_query.specs.Transformers.{IsUncovered};
 ghost use Rattle.am_query.specs.declared.query.Query.TheVariants.{Sound};
-ghost use Rattle.am_dual.specs.inside.Underway.{IsEnd, IsNext, IsUnderway, NothingSuits};
+ghost use Rattle.am_dual.specs.inside.Underway.{IsBegun, IsNext, IsUnderway, NothingSuits};
 
 use am_chain::Log;
 use am_drop::{Keeping, keep};
 use am_problem::{Positive, Problem, Transformer};
 use am_query::{
-    Asked, FitAnswer, Outcome, Places, PreciseAnswer, SoundAnswer, State, Trace, Turn, at_places,
-    fit, precise, sound,
+    Asked, Closer, Outcome, Places, QueryAnswer, State, Trace, Turn, at_places, fit, precise, sound,
 };
 use std::alloc::{AllocError, Global};
 
@@ -40,26 +39,26 @@ pub enum Next {
 impl Synthesis {
     /// A synthesis without turns, where some transformer derives.
     pub fn start(alloc: Global, p: &Problem) -> Result<Next, AllocError>
-        ensures { IfOk result (IsNext p.now 0) }
+        ensures { IfOk result (IsBegun p.now) }
     {
         let trace = Trace::new(alloc);
         let state = State::new(alloc);
         match fit(alloc, p, &state.positives, &state.negatives, limit(p))? {
-            FitAnswer::Found(term) => Ok(Next::Turn(Synthesis { trace, state, term })),
-            FitAnswer::Nothing(log) => Ok(Next::End(Outcome::Absent { trace, log })),
-            FitAnswer::Spent(log) => Ok(spent(trace, Asked::Start, log)),
+            QueryAnswer::Found(term) => Ok(Next::Turn(Synthesis { trace, state, term })),
+            QueryAnswer::Refuted(log) => Ok(Next::End(Outcome::Absent { trace, log })),
+            QueryAnswer::Spent(log) => Ok(spent(trace, Asked::Start, log)),
         }
     }
 
     /// A turn: positive where the transformer isn't sound, else negative where there is a closer one.
     pub fn turn(self, alloc: Global, p: &Problem) -> Result<Next, AllocError>
         requires { IsUnderway p.now p.now.turns self }
-        ensures { IfOk result (IsNext p.now (length self.trace + 1)) }
+        ensures { IfOk result (IsNext p.now self.trace) }
     {
         match sound(alloc, p, &self.term, limit(p))? {
-            SoundAnswer::Holds(log) => self.negative_turn(alloc, p, log),
-            SoundAnswer::Fails(example) => self.positive_turn(alloc, p, example),
-            SoundAnswer::Spent(log) => {
+            QueryAnswer::Refuted(log) => self.negative_turn(alloc, p, log),
+            QueryAnswer::Found(example) => self.positive_turn(alloc, p, example),
+            QueryAnswer::Spent(log) => {
                 let Synthesis {
                     trace,
                     state: _,
@@ -79,7 +78,7 @@ impl Synthesis {
     ) -> Result<Next, AllocError>
         requires underway { IsUnderway p.now p.now.turns self }
         requires uncovered { IsUncovered p.now self.term example }
-        ensures { IfOk result (IsNext p.now (length self.trace + 1)) }
+        ensures { IfOk result (IsNext p.now self.trace) }
     {
         let Synthesis {
             trace,
@@ -121,7 +120,7 @@ impl Synthesis {
         requires underway { IsUnderway p.now p.now.turns self }
         requires sound { IsSound (question_of p.now) self.term }
         requires refuted { IsRefuted p.now (Sound self.term) p.now.conflicts sound_log }
-        ensures { IfOk result (IsNext p.now (length self.trace + 1)) }
+        ensures { IfOk result (IsNext p.now self.trace) }
     {
         let Synthesis {
             trace,
@@ -136,17 +135,21 @@ impl Synthesis {
             &state.negatives,
             limit(p),
         )? {
-            PreciseAnswer::Best(best_log) => Ok(Next::End(Outcome::Best {
+            QueryAnswer::Refuted(best_log) => Ok(Next::End(Outcome::Best {
                 term,
                 trace,
                 sound_log,
                 best_log,
             })),
-            PreciseAnswer::Better(closer, example) => {
+            QueryAnswer::Found(closer) => {
+                let Closer {
+                    term: next,
+                    example,
+                } = closer;
                 state.negatives.push(example.copy())?;
-                go_on(p, trace, Turn::Negative { term, example }, state, closer)
+                go_on(p, trace, Turn::Negative { term, example }, state, next)
             }
-            PreciseAnswer::Spent(log) => Ok(spent(trace, Asked::Precise { term }, log)),
+            QueryAnswer::Spent(log) => Ok(spent(trace, Asked::Precise { term }, log)),
         }
     }
 }
@@ -162,7 +165,7 @@ fn go_on(
 ) -> Result<Next, AllocError>
     requires { IsUnderway p.now (p.now.turns + 1)
         (record { trace = trace ++ turn ∷ []; state = state; term = term }) }
-    ensures { IfOk result (IsNext p.now (length trace + 1)) }
+    ensures { IfOk result (IsNext p.now trace) }
 {
     trace.push(turn)?;
     if trace.len() > p.turns() as usize {
@@ -175,7 +178,7 @@ fn go_on(
 /// made, the turns were spent, else none is sound.
 fn absent(p: &Problem, mut trace: Trace, turn: Turn, log: Log) -> Result<Next, AllocError>
     requires { NothingSuits p.now (p.now.turns + 1) (trace ++ turn ∷ []) log }
-    ensures { IfOk result (IsNext p.now (length trace + 1)) }
+    ensures { IfOk result (IsNext p.now trace) }
 {
     trace.push(turn)?;
     if trace.len() <= p.turns() as usize {

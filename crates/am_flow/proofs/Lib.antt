@@ -1,6 +1,5 @@
 pub mod EdgeLaws
 pub mod FlowLaws
-pub mod Reaching
 pub mod FitLaws
 pub mod RowLaws
 pub mod JoinLaws

@@ -15,8 +15,8 @@ use crate::limits::{MOST_EDGES, MOST_NODES, MOST_VARIABLES};
 use am_bv::{Row, Width};
 use am_problem::{Kind, take_domain};
 use am_syntax::{
-    Cause, Failure, Item, Listed, ReadError, is_digits, is_next, placed, read_list, refuse_next,
-    take_below, take_key, take_number,
+    Cause, Failure, Item, Listed, ReadError, follow, is_digits, is_next, placed, read_list,
+    refuse_next, take_below, take_key, take_number,
 };
 use am_text::Cursor;
 use std::alloc::{AllocError, Global};
@@ -336,12 +336,13 @@ fn read_flow(alloc: Global, text: &mut Cursor<'_>, operations: u32) -> Result<Fl
 ///
 /// # Errors
 ///
-/// `Refused`: the first token that no flow has here. The cursor stands at it. `NoMemory`: the cursor stands at some
-/// token that the call had reached.
+/// `Refused`: the first token that no flow has here. The cursor stands at it. `NoMemory`: the cursor stays.
 pub fn flow_at(alloc: Global, c: &mut Cursor<'_>, operations: u32) -> Result<Flow, ReadError>
     ensures value { MakesAt (λ f. f) result c.old c.new (flow operations).read }
     ensures limits { IfOk result (IsFlow operations) }
 {
-    let read = read_flow(alloc, c, operations);
-    placed(read, &*c)
+    let mut ahead = c.fork();
+    let read = read_flow(alloc, &mut ahead, operations);
+    let flow = follow(c, ahead, read);
+    placed(flow, &*c)
 }

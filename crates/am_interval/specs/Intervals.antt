@@ -38,10 +38,6 @@ unsigned_top w = 0 ∷ (2 ^ w - 1) ∷ []
 abbrev pub signed_top : ℕ → List ℕ
 signed_top w = (2 ^ (w - 1)) ∷ (2 ^ (w - 1) - 1) ∷ []
 
--- the interval of one word
-abbrev pub point : ℕ → List ℕ
-point c = c ∷ c ∷ []
-
 abbrev pub lesser : Reading → ℕ → ℕ → ℕ → ℕ
 lesser number w c d = if int_lt (number w d) (number w c) then d else c
 

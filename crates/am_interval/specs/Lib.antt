@@ -1,3 +1,4 @@
 pub mod Intervals
 pub mod Terms
+pub mod Domains
 pub mod lemmas

@@ -2,3 +2,4 @@ pub mod Numbers
 pub mod Laws
 pub mod Terms
 pub mod Walks
+pub mod Domains

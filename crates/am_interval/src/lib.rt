@@ -14,8 +14,8 @@
 //! ```
 //!
 //! The definitions stand in `specs/Intervals.antt`, once for both ways to read a word as a number,
-//! and those of the terms for validity and membership in `specs/Terms.antt`. The proofs of
-//! the laws are in `specs/lemmas`.
+//! those of the terms for validity and membership in `specs/Terms.antt`, and both domains as records in
+//! `specs/Domains.antt`. The proofs of the laws are in `specs/lemmas`.
 //!
 //! # What is proved
 //!

@@ -1,17 +1,10 @@
 //! Intervals of words as numbers in two's complement.
 
 ghost use Rattle.std.specs.Prelude.{◌≡◌, ◌^◌, ◌<◌};
-ghost use Rattle.std.proofs.Common.{lit≤, refl};
 ghost use Rattle.am_bv.specs.Words.{signed};
-ghost use Rattle.am_bv.specs.declared.op.Op.TheVariants.{Sle};
-ghost use Rattle.am_interval.specs.Intervals.{intervals, greater, greatest, hull, least, lesser, point, signed_top};
-ghost use Rattle.am_interval.specs.Intervals.{tidied, words_outside};
-ghost use Rattle.am_interval.specs.Terms.{between_term, order_term};
-ghost use Rattle.am_interval.specs.lemmas.Laws as laws;
-ghost use Rattle.am_interval.specs.lemmas.Numbers.{signed_top-IsTop};
-ghost use Rattle.am_interval.specs.lemmas.Terms.{Sle-IsAtMost};
-ghost use Rattle.am_interval.specs.lemmas.Terms as terms;
-ghost use Rattle.am_interval.specs.lemmas.Walks as walks;
+ghost use Rattle.am_interval.specs.Intervals.{greater, lesser};
+ghost use Rattle.am_interval.specs.Domains.{signed_intervals};
+ghost use Rattle.am_interval.specs.lemmas.Domains.{signed_laws, signed_walks};
 
 use crate::terms::{between_term, order_term};
 use am_bv::{Op, Term, Width};
@@ -42,23 +35,7 @@ fn greater(w: Width, c: u8, d: u8) -> u8
 }
 
 impl Domain for Signed {
-    ghost meaning = { λ _. intervals signed };
-
-    ghost top = { λ _. signed_top };
-
-    ghost of_word = { λ _ w. point };
-
-    ghost some_member = { λ _ w. least };
-
-    ghost join = { λ _. hull signed };
-
-    ghost tidy = { λ _. tidied signed };
-
-    ghost rank = { λ _. words_outside signed };
-
-    ghost valid_term = { λ _ w. order_term Sle };
-
-    ghost member_term = { λ _ w. between_term Sle };
+    ghost abstraction = { λ _. signed_intervals };
 
     fn fields(&self) -> u32 {
         2
@@ -114,35 +91,9 @@ impl Domain for Signed {
         between_term(alloc, Op::Sle)
     }
 
-    ghost has_fields = { λ _. lit≤ tt };
-
-    ghost has_members = { λ _. laws.has_members signed };
-
-    ghost has_top = { λ _. laws.has_top signed signed_top (λ w width. signed_top-IsTop w width.0) };
-
-    ghost holds_words = { λ _. laws.holds_words signed };
-
-    ghost joins_above = { λ _. laws.joins_above signed };
-
-    ghost descends = { λ _. laws.descends signed signed_top (λ w width. signed_top-IsTop w width.0) };
-
-    ghost tidies = { λ _. laws.tidies signed };
-
-    ghost tells_validity = { λ _. terms.tells_validity signed Sle Sle-IsAtMost };
-
-    ghost tells_membership = { λ _. terms.tells_membership signed Sle Sle-IsAtMost };
+    ghost keeps_laws = { λ _. signed_laws };
 }
 
 impl Anchored for Signed {
-    ghost has_two_fields = { λ _. refl };
-
-    ghost has_start = { λ _. walks.has_start signed };
-
-    ghost has_points = { λ _. walks.has_points };
-
-    ghost keeps_start = { λ _. walks.keeps_start signed };
-
-    ghost walks_members = { λ _. walks.walks_members signed walks.signed-IsModular };
-
-    ghost has_parts = { λ _. walks.has_parts signed walks.signed-IsModular };
+    ghost is_anchored = { λ _. signed_walks };
 }

@@ -1,15 +1,7 @@
 //! Intervals of words as unsigned numbers.
 
-ghost use Rattle.std.proofs.Common.{lit≤, refl};
-ghost use Rattle.am_bv.specs.declared.op.Op.TheVariants.{Ule};
-ghost use Rattle.am_interval.specs.Intervals.{intervals, greatest, hull, least, point, tidied, unsigned, unsigned_top};
-ghost use Rattle.am_interval.specs.Intervals.{words_outside};
-ghost use Rattle.am_interval.specs.Terms.{between_term, order_term};
-ghost use Rattle.am_interval.specs.lemmas.Laws as laws;
-ghost use Rattle.am_interval.specs.lemmas.Numbers.{unsigned_top-IsTop};
-ghost use Rattle.am_interval.specs.lemmas.Terms.{Ule-IsAtMost};
-ghost use Rattle.am_interval.specs.lemmas.Terms as terms;
-ghost use Rattle.am_interval.specs.lemmas.Walks as walks;
+ghost use Rattle.am_interval.specs.Domains.{unsigned_intervals};
+ghost use Rattle.am_interval.specs.lemmas.Domains.{unsigned_laws, unsigned_walks};
 
 use crate::terms::{between_term, order_term};
 use am_bv::{Op, Term, Width};
@@ -22,23 +14,7 @@ use std::alloc::{AllocError, Global};
 pub struct Unsigned;
 
 impl Domain for Unsigned {
-    ghost meaning = { λ _. intervals unsigned };
-
-    ghost top = { λ _. unsigned_top };
-
-    ghost of_word = { λ _ w. point };
-
-    ghost some_member = { λ _ w. least };
-
-    ghost join = { λ _. hull unsigned };
-
-    ghost tidy = { λ _. tidied unsigned };
-
-    ghost rank = { λ _. words_outside unsigned };
-
-    ghost valid_term = { λ _ w. order_term Ule };
-
-    ghost member_term = { λ _ w. between_term Ule };
+    ghost abstraction = { λ _. unsigned_intervals };
 
     fn fields(&self) -> u32 {
         2
@@ -88,35 +64,9 @@ impl Domain for Unsigned {
         between_term(alloc, Op::Ule)
     }
 
-    ghost has_fields = { λ _. lit≤ tt };
-
-    ghost has_members = { λ _. laws.has_members unsigned };
-
-    ghost has_top = { λ _. laws.has_top unsigned unsigned_top (λ w _. unsigned_top-IsTop w) };
-
-    ghost holds_words = { λ _. laws.holds_words unsigned };
-
-    ghost joins_above = { λ _. laws.joins_above unsigned };
-
-    ghost descends = { λ _. laws.descends unsigned unsigned_top (λ w _. unsigned_top-IsTop w) };
-
-    ghost tidies = { λ _. laws.tidies unsigned };
-
-    ghost tells_validity = { λ _. terms.tells_validity unsigned Ule Ule-IsAtMost };
-
-    ghost tells_membership = { λ _. terms.tells_membership unsigned Ule Ule-IsAtMost };
+    ghost keeps_laws = { λ _. unsigned_laws };
 }
 
 impl Anchored for Unsigned {
-    ghost has_two_fields = { λ _. refl };
-
-    ghost has_start = { λ _. walks.has_start unsigned };
-
-    ghost has_points = { λ _. walks.has_points };
-
-    ghost keeps_start = { λ _. walks.keeps_start unsigned };
-
-    ghost walks_members = { λ _. walks.walks_members unsigned walks.unsigned-IsModular };
-
-    ghost has_parts = { λ _. walks.has_parts unsigned walks.unsigned-IsModular };
+    ghost is_anchored = { λ _. unsigned_walks };
 }

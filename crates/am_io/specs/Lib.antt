@@ -1,3 +1,4 @@
 pub mod Streams
 pub mod Memory
+pub mod Standard
 pub mod inside

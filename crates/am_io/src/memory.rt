@@ -167,6 +167,10 @@ impl Sink for MemorySink {
 
     ghost faults = { λ s. s.faults };
 
+    ghost calls = { λ s. s.calls };
+
+    ghost finishes = { λ _. 0 };
+
     ghost finished = { λ _. Unit {0} };
 
     /// Takes as many bytes as the least of `step`, the room left and the piece's length. Without
@@ -177,6 +181,7 @@ impl Sink for MemorySink {
         ensures bound { IfOk result (λ n. (0 < n) × (n ≤ length piece.now)) }
         ensures bytes { WriteAppends (Some self.old.taken) (Some self.new.taken) result piece.now }
         ensures cause { FailsByCount self.old.faults self.new.faults result }
+        ensures calls { self.new.calls ≤ self.old.calls + 1 }
         ensures fails { IsErr result ↔
             (Contains self.old.failing self.old.calls ⊎ (self.old.room ≡ 0)) }
         ensures least { IfOk result (λ n.
@@ -199,6 +204,7 @@ impl Sink for MemorySink {
         requires { self.old.faults < 2 ^ 64 - 1 }
         ensures bytes { Keeps (Some self.old.taken) (Some self.new.taken) }
         ensures cause { FailsByCount self.old.faults self.new.faults result }
+        ensures calls { self.new.calls ≤ self.old.calls + 1 }
         ensures finished { OnOk result (Unit {0}) }
         ensures listed { IsErr result ↔ Contains self.old.failing self.old.calls }
         ensures finishes { Finishes self.old self.new result }

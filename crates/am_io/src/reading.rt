@@ -9,7 +9,7 @@ use crate::streams::{Failed, Source};
 use std::alloc::{AllocError, Global};
 use thiserror::Error;
 
-/// Why reading stopped before a source's end.
+/// Why there is no text of a source.
 #[derive(Clone, Copy, PartialEq, Eq, Debug, Error)]
 pub enum ReadEnd {
     /// The source failed.
@@ -18,7 +18,7 @@ pub enum ReadEnd {
     /// The source has more bytes than the limit.
     #[error("input too long")]
     Long,
-    /// There was no memory for the text.
+    /// There was no memory.
     #[error("no memory")]
     NoMemory,
 }

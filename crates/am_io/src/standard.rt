@@ -1,13 +1,13 @@
-//! The standard streams, whose bytes no contract tells. Each answer of std goes through `counted`.
+//! A source over any reader of std and a sink over any writer, such as the standard streams.
 
-ghost use Rattle.std.specs.Prelude.{◌≡◌, ◌-◌, ◌<◌, ◌^◌, None};
+ghost use Rattle.std.specs.Prelude.{◌≡◌, ◌-◌, ◌<◌, ◌^◌};
 ghost use Rattle.am_io.specs.inside.Counted.{Counts};
 
 use crate::streams::{Failed, Sink, Source};
-use std::io::{self, Read, Stdin, Stdout, Write};
+use std::io::{self, Read, Write};
 use std::marker::Model;
 
-/// Passes on what a call on a standard stream answered, and counts an error as a fault.
+/// Passes on what a call of std answered, and counts an error as a fault.
 fn counted<T>(answer: io::Result<T>, faults: &mut u64) -> Result<T, Failed>
     requires { faults.old < 2 ^ 64 - 1 }
     ensures { Counts answer result faults.old faults.new }
@@ -21,74 +21,82 @@ fn counted<T>(answer: io::Result<T>, faults: &mut u64) -> Result<T, Failed>
     }
 }
 
-/// Standard input. A contract sees its count of faults, and its bytes are not told.
+/// A source over a reader of std. It has left what the reader has left, which standard input doesn't tell.
 #[derive(Drop)]
-pub struct StdSource {
-    input: Stdin,
+pub struct StdSource<R: Read> {
+    reader: R,
     faults: u64,
 }
 
-impl Model for StdSource {
-    ghost use Rattle.std.specs.Prelude.{ℕ};
+impl<R: Read> Model for StdSource<R> {
+    ghost use Rattle.am_io.specs.Standard.{StreamState, stream_code};
 
-    ghost Value = { ℕ };
+    ghost Value = { StreamState };
 
-    ghost view = { λ s. s.faults };
+    ghost coded = { stream_code };
+
+    ghost view = { λ s. record { bytes = R.remaining s.reader; faults = s.faults } };
 }
 
-impl StdSource {
-    pub fn new(input: Stdin) -> StdSource
-        ensures { result ≡ 0 }
+impl<R: Read> StdSource<R> {
+    pub fn new(reader: R) -> StdSource<R>
+        ensures { result ≡ record { bytes = R.remaining reader; faults = 0 } }
     {
-        StdSource { input, faults: 0 }
+        StdSource { reader, faults: 0 }
     }
 }
 
-impl Source for StdSource {
-    ghost left = { λ _. None };
+impl<R: Read> Source for StdSource<R> {
+    ghost left = { λ s. s.bytes };
 
-    ghost faults = { λ s. s };
+    ghost faults = { λ s. s.faults };
 
     ghost calls = { λ _. 0 };
 
     fn take(&mut self, into: &mut [u8]) -> Result<usize, Failed> {
-        counted(self.input.read(into), &mut self.faults)
+        counted(self.reader.read(into), &mut self.faults)
     }
 }
 
-/// Standard output. A contract sees its count of faults, and its bytes are not told.
+/// A sink over a writer of std. It has taken what the writer holds, which standard output doesn't tell.
 #[derive(Drop)]
-pub struct StdSink {
-    output: Stdout,
+pub struct StdSink<W: Write> {
+    writer: W,
     faults: u64,
 }
 
-impl Model for StdSink {
-    ghost use Rattle.std.specs.Prelude.{ℕ};
+impl<W: Write> Model for StdSink<W> {
+    ghost use Rattle.am_io.specs.Standard.{StreamState, stream_code};
 
-    ghost Value = { ℕ };
+    ghost Value = { StreamState };
 
-    ghost view = { λ s. s.faults };
+    ghost coded = { stream_code };
+
+    ghost view = { λ s. record { bytes = W.contents s.writer; faults = s.faults } };
 }
 
-impl StdSink {
-    pub fn new(output: Stdout) -> StdSink
-        ensures { result ≡ 0 }
+impl<W: Write> StdSink<W> {
+    pub fn new(writer: W) -> StdSink<W>
+        ensures { result ≡ record { bytes = W.contents writer; faults = 0 } }
     {
-        StdSink { output, faults: 0 }
+        StdSink { writer, faults: 0 }
     }
 }
 
-impl Sink for StdSink {
-    ghost taken = { λ _. None };
+impl<W: Write> Sink for StdSink<W> {
+    ghost taken = { λ s. s.bytes };
 
-    ghost faults = { λ s. s };
+    ghost faults = { λ s. s.faults };
+
+    ghost calls = { λ _. 0 };
+
+    ghost finishes = { λ _. 0 };
 
     ghost finished = { λ _. Unit {0} };
 
     /// A write of no byte is a fault, as an error is.
     fn put(&mut self, piece: &[u8]) -> Result<usize, Failed> {
-        match counted(self.output.write(piece), &mut self.faults)? {
+        match counted(self.writer.write(piece), &mut self.faults)? {
             0 => {
                 self.faults += 1;
                 Err(Failed::Failed)
@@ -98,6 +106,6 @@ impl Sink for StdSink {
     }
 
     fn finish(&mut self) -> Result<(), Failed> {
-        counted(self.output.flush(), &mut self.faults)
+        counted(self.writer.flush(), &mut self.faults)
     }
 }

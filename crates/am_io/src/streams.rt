@@ -42,6 +42,12 @@ pub trait Sink {
     /// A count of faults, which never falls.
     ghost faults: { Self → ℕ };
 
+    /// Any count that rises by at most one with each call, such as the number of calls so far.
+    ghost calls: { Self → ℕ };
+
+    /// Any count that rises by at most one with each `finish`, and with no `put`.
+    ghost finishes: { Self → ℕ };
+
     /// What holds once a `finish` has succeeded.
     ghost finished: { Self → Type 0 };
 
@@ -51,12 +57,16 @@ pub trait Sink {
         requires count { faults self.old < 2 ^ 64 - 1 }
         ensures bound { IfOk result (λ n. (0 < n) × (n ≤ length piece.now)) }
         ensures bytes { WriteAppends (taken self.old) (taken self.new) result piece.now }
-        ensures cause { FailsByCount (faults self.old) (faults self.new) result };
+        ensures cause { FailsByCount (faults self.old) (faults self.new) result }
+        ensures calls { calls self.new ≤ calls self.old + 1 }
+        ensures finishes { finishes self.new ≤ finishes self.old };
 
     /// Passes on what was taken, to whatever is behind the sink. It takes no bytes.
     fn finish(&mut self) -> Result<(), Failed>
         requires { faults self.old < 2 ^ 64 - 1 }
         ensures bytes { Keeps (taken self.old) (taken self.new) }
         ensures cause { FailsByCount (faults self.old) (faults self.new) result }
+        ensures calls { calls self.new ≤ calls self.old + 1 }
+        ensures finishes { finishes self.new ≤ finishes self.old + 1 }
         ensures finished { OnOk result (finished self.new) };
 }

@@ -1,6 +1,6 @@
 //! Writing a whole text to a sink.
 
-ghost use Rattle.std.specs.Prelude.{◌≡◌, ◌-◌, ◌<◌, ◌^◌, OnOk};
+ghost use Rattle.std.specs.Prelude.{◌≡◌, ◌+◌, ◌-◌, ◌<◌, ◌≤◌, ◌^◌, OnOk, length};
 ghost use Rattle.std.specs.Io.KnownBytes.{Appends};
 ghost use Rattle.am_io.specs.Streams.{AppendsPrefix, FailsByCount};
 
@@ -30,6 +30,10 @@ pub fn write_all<W: Sink>(sink: &mut W, bytes: &[u8]) -> Result<(), WriteFault>
     ensures prefix { AppendsPrefix (W.taken sink.old) (W.taken sink.new) bytes.now }
     ensures finished { OnOk result (W.finished sink.new) }
     ensures cause { FailsByCount (W.faults sink.old) (W.faults sink.new) result }
+
+    // At most one call for each byte, and the one `finish`.
+    ensures calls { W.calls sink.new ≤ W.calls sink.old + length bytes.now + 1 }
+    ensures once { W.finishes sink.new ≤ W.finishes sink.old + 1 }
 {
     let mut done = 0;
     while done < bytes.len() {

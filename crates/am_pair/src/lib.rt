@@ -18,7 +18,8 @@
 //!
 //! Each method equals its definition, and each law of `Domain` holds, for all words and tuples of every
 //! width from 2 to 8. This is proved once, from the laws of the two parts, for all domains that meet the
-//! bounds. [`theorems`] says which words tidying keeps: those that are members of both tidied parts.
+//! bounds. Tidying takes the hull of the common words of the two tidied parts, and [`theorems`] says that
+//! these are the words that are members of both.
 #![tactic(auto)]
 
 mod pair;

@@ -2,7 +2,7 @@
 use Rattle.std.proofs.Common.{◌≡◌, ℕ, ◌+◌, ◌*◌, ◌<◌, ◌≤◌, ◌==◌, Bool, true, false, ◌||◌, List, [], ◌∷◌, ◌++◌, length, map, sum_by, bytes_eq, All, nat_lt, Option, Some, None, ap, subst, refl, sym, ◌∙◌, arith}
 use Rattle.std.specs.List.{AllByRecursion, IsDistinct, list_all}
 use Rattle.std.specs.Prelude.{IfSome, IsTrue}
-use Rattle.std.proofs.lemmas.Bool.{and_from, and_parts, eq-eqb, eqb-true, leb-true, le-leb, lt-ltb}
+use Rattle.std.proofs.lemmas.Bool.{and_from, and_parts, eq-eqb, eqb-true, lt-ltb}
 use Rattle.std.proofs.lemmas.List.{length-map}
 use Rattle.std.proofs.lemmas.List.Sums.{sum_by-cons}
 use Rattle.std.proofs.lemmas.Map.Made.{AllPairs-from_IsDistinct, IsDistinct-from_AllPairs}
@@ -15,7 +15,9 @@ use Rattle.am_syntax.specs.Readers.{Word}
 use Rattle.am_syntax.specs.Spelling.{IsWithin, Scope}
 use Rattle.am_syntax.specs.declared.limits.Letter.{Letter}
 use Rattle.am_syntax.specs.declared.limits.Letter.TheVariants.{X, F}
+use Rattle.am_bv.proofs.Laws.{fits-arities}
 use Rattle.am_tree.specs.Grammars.{is_production}
+use Rattle.am_tree.proofs.Laws.{leaf-small, small-leaf}
 use Rattle.am_tree.specs.Trees.{Rules}
 use Rattle.am_tree.specs.declared.grammar.Production.{Production as Numbered}
 use Rattle.am_tree.specs.declared.grammar.Production.TheVariants.{Leaf, Node}
@@ -107,7 +109,7 @@ module _ (scope : Scope) (names : List Word) (count : ℕ) (each : length names 
   numbers_in (v ∷ vs) h = and_from _ _ (lt-ltb (number_in names v) count (omega (arith, number_below names v h.0, each))) (numbers_in vs h.1)
 
   production_in : (p : Production) → IsProduction scope p → AreKnownIn names p → IsTrue (is_production count (numbered_production names p))
-  production_in (leaf t) is known = le-leb (nodes t) 64 is.few
+  production_in (leaf t) is known = small-leaf count t is.few (fits-arities scope.width scope.variables t is.fit)
   production_in (node op args) is known =
       and_from _ _ (ap (λ n. n == arity op) (length-map args (number_in names) ∙ is.0) ∙ same (arity op)) (numbers_in args known)
     where
@@ -230,7 +232,9 @@ within w n most letter t fit few = record { fit = fit; few = few; flat = omega (
 
 module _ (scope : Scope) (names : List Word) (all : All (λ v. IsTrue (is_name v)) names) where
   production_is : (p : Numbered) → IsTrue (is_production (length names) p) → IsOver scope.width scope.variables p → IsProduction scope (named_production names p)
-  production_is (Leaf t) is over = record { fit = over; few = leb-true (nodes t) 64 is; flat = omega (arith, nesting_few t, leb-true (nodes t) 64 is) }
+  production_is (Leaf t) is over =
+      let few : nodes t ≤ 64 = leaf-small (length names) t is in
+      record { fit = over; few = few; flat = omega (arith, nesting_few t, few) }
   production_is (Node op ns) is over = (
     length-map ns (name_at names) ∙ eqb-true (length ns) (arity op) (and_parts _ _ is).0,
     names_are names all ns (below_by (length names) ns (and_parts _ _ is).1),

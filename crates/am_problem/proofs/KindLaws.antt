@@ -1,9 +1,7 @@
 -- The law of a domain's name.
 use Rattle.std.proofs.Common.{◌≡◌, Some, bytes_eq, ap, sym, refl}
 use Rattle.am_problem.specs.declared.kind.Kind.{Kind}
-use Rattle.am_problem.specs.declared.kind.Kind.TheVariants.{UInterval, SInterval, KnownBits}
-use Rattle.am_problem.specs.declared.kind.Kind.TheVariants.{Parity, Congruence, WInterval}
-use Rattle.am_problem.specs.declared.kind.Kind.TheVariants.{UIntervalKnown, UIntervalCongruence, WIntervalCongruence}
+use Rattle.am_problem.specs.declared.kind.Kind.TheVariants.{UInterval}
 use Rattle.am_problem.specs.Grammar.{domain, domain_judge, kind_named}
 use Rattle.am_problem.specs.Kinds.{all_kinds, kind_name}
 use Rattle.am_syntax.specs.Exact.{IsExact, always}
@@ -13,17 +11,8 @@ use Rattle.am_syntax.proofs.Laws.{found_passes, named_some, same_bytes, token_la
 
 kind_named-name : (kind : Kind) → kind_named (kind_name kind) ≡ Some kind
 unfolding kind_named
-kind_named-name kind = elim kind as (λ k. kind_named (kind_name k) ≡ Some k) [
-  | UInterval ↦ refl
-  | SInterval ↦ refl
-  | KnownBits ↦ refl
-  | Parity ↦ refl
-  | Congruence ↦ refl
-  | WInterval ↦ refl
-  | UIntervalKnown ↦ refl
-  | UIntervalCongruence ↦ refl
-  | WIntervalCongruence ↦ refl
-]
+kind_named-name UInterval = refl
+kind_named-name _ = refl
 
 kind_of_name : (v : Word) (kind : Kind) → kind_named v ≡ Some kind → v ≡ kind_name kind
 unfolding kind_named

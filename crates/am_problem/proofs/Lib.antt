@@ -5,7 +5,6 @@ pub mod Lists
 pub mod KindLaws
 pub mod ProblemLaws
 pub mod LineLaws
-pub mod Reaching
 pub mod LineLimits
 pub mod Undefined
 pub mod Nesting

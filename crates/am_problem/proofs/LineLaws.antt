@@ -1,11 +1,10 @@
 -- The lines of a problem are spelled as they are read, and read as they are spelled.
 use Rattle.std.proofs.Common.{◌≡◌, ℕ, ◌*◌, ◌<◌, ◌≤◌, ◌^◌, false, codes, ap, refl, arith, lit<}
+use Rattle.std.proofs.Math.Nat.{mul-le-mul}
 use Rattle.am_problem.specs.declared.kind.Kind.{Kind}
-use Rattle.am_problem.specs.declared.kind.Kind.TheVariants.{UInterval, SInterval, KnownBits}
-use Rattle.am_problem.specs.declared.kind.Kind.TheVariants.{Parity, Congruence, WInterval}
-use Rattle.am_problem.specs.declared.kind.Kind.TheVariants.{UIntervalKnown, UIntervalCongruence, WIntervalCongruence}
 use Rattle.am_syntax.specs.declared.limits.Letter.TheVariants.{X, F}
 use Rattle.am_problem.specs.Kinds.{fields_of}
+use Rattle.am_problem.specs.lemmas.KindLaws.{laws_of}
 use Rattle.am_syntax.specs.Spelling.{IsScope}
 use Rattle.am_syntax.specs.Pieces.{number, syntax}
 use Rattle.am_problem.specs.Grammar.{late}
@@ -55,15 +54,7 @@ budgets_law =
     (λ x good. refl) (λ b. refl)
 
 field_count : (n : ℕ) (k : Kind) → n ≤ 3 → n * fields_of k < 2 ^ 64
-field_count n UInterval h = omega arith
-field_count n SInterval h = omega arith
-field_count n KnownBits h = omega arith
-field_count n Parity h = omega arith
-field_count n Congruence h = omega arith
-field_count n WInterval h = omega arith
-field_count n UIntervalKnown h = omega arith
-field_count n UIntervalCongruence h = omega arith
-field_count n WIntervalCongruence h = omega arith
+field_count n k h = let most : n * fields_of k ≤ 3 * 4 = mul-le-mul h (laws_of k).few_fields in omega (arith, most)
 
 pub field_scope : (h : Header) (k : Kind) → header.Good h → IsScope (scope_at h.width F (h.inputs * fields_of k))
 unfolding header number

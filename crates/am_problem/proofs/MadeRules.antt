@@ -4,15 +4,16 @@ use Rattle.std.proofs.Common.{◌≡◌, ℕ, zero, suc, ◌+◌, ◌-◌, ◌*�
 use Rattle.std.proofs.Common.{All, IsTrue, Some, refl, sym, subst, ap, ◌∙◌, arith, lit≤}
 use Rattle.std.specs.List.{AllByRecursion, AllZip, range_with_len}
 use Rattle.std.specs.Prelude.{sum_by}
-use Rattle.std.proofs.lemmas.Bool.{and_from, eq-eqb, le-leb, lt-ltb}
+use Rattle.std.proofs.lemmas.Bool.{and_from, eq-eqb, lt-ltb}
 use Rattle.std.proofs.lemmas.Nat.{mul-le}
-use Rattle.am_bv.proofs.Laws.{fits-Const, fits-Field, nodes-Const, nodes-Field, weight-Const, weight-Field}
+use Rattle.am_bv.proofs.Laws.{arities-Const, arities-Field, fits-Const, fits-Field, nodes-Const, nodes-Field}
+use Rattle.am_bv.proofs.Laws.{weight-Const, weight-Field}
 use Rattle.am_bv.specs.Operators.{arity, weight_of}
 use Rattle.am_bv.specs.declared.op.Op.{Op}
 use Rattle.am_bv.specs.declared.op.Op.TheVariants.{Ashr, Lshr, Mul, Shl, Udiv, Urem}
 use Rattle.am_bv.specs.declared.term.Term.{Term}
 use Rattle.am_bv.specs.declared.term.Term.TheVariants.{Const, Field}
-use Rattle.am_tree.proofs.Laws.{Derives-tree, term_of-tree}
+use Rattle.am_tree.proofs.Laws.{Derives-tree, small-leaf, term_of-tree}
 use Rattle.am_tree.specs.Grammars.{IsGrammar, is_production}
 use Rattle.am_tree.specs.Slots.{layout_of, slots_from}
 use Rattle.am_tree.specs.Trees.{AreDerived, AreTrees, Derives, Rules, production_at, term_by, term_of, terms_of, tree}
@@ -56,13 +57,13 @@ AreGood count w fields rules = AllByRecursion (AllByRecursion (IsGood count w fi
 module _ (count w fields : ℕ) where
   const_good : (c : ℕ) → c < 2 ^ w → IsGood count w fields (Leaf (Const c))
   const_good c word = record {
-    production = le-leb _ 64 (omega (arith, nodes-Const c));
+    production = small-leaf count (Const c) (omega (arith, nodes-Const c)) (arities-Const c);
     over = fits-Const w fields c ∙ lt-ltb c (2 ^ w) word;
   }
 
   field_good : (i : ℕ) → i < fields → IsGood count w fields (Leaf (Field i))
   field_good i below = record {
-    production = le-leb _ 64 (omega (arith, nodes-Field i));
+    production = small-leaf count (Field i) (omega (arith, nodes-Field i)) (arities-Field i);
     over = fits-Field w fields i ∙ lt-ltb i fields below;
   }
 

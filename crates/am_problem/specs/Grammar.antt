@@ -12,8 +12,6 @@ use Rattle.am_syntax.specs.declared.refusal.Cause.TheVariants.{Syntax, Count, Tw
 use Rattle.am_syntax.specs.declared.limits.Letter.{Letter}
 use Rattle.am_syntax.specs.declared.limits.Letter.TheVariants.{X, F}
 use Rattle.am_syntax.specs.Spelling.{Scope}
-use Rattle.am_tree.specs.declared.grammar.TheConstants.{MOST_DEPTH, MOST_LEAF_NODES, MOST_PRODUCTIONS, MOST_RULES}
-use Rattle.am_problem.specs.declared.limits.TheConstants.{MOST_CONFLICTS, MOST_INPUTS, MOST_NODES, MOST_TURNS}
 use Rattle.am_problem.specs.Kinds.{all_kinds, fields_of, kind_name}
 use Rattle.am_syntax.specs.Numerals.{is_name}
 use Rattle.am_syntax.specs.Readers.{Word, Words}
@@ -30,7 +28,7 @@ scope_at w letter n = record { width = w; letter = letter; variables = n }
 
 -- no more parentheses are open than there are nodes
 abbrev pub small_term : Scope → Piece Term
-small_term scope = term_within scope false MOST_NODES MOST_NODES
+small_term scope = term_within scope false 64 64
 
 abbrev pub HeaderParts : Type 0
 HeaderParts = ℕ × (ℕ × (ℕ × (Term × Option Term)))
@@ -45,7 +43,7 @@ unfoldable pub header : Piece Header
 header = seen_as header_of header_parts (
     keyed (codes "amurth") (number 1 1) ▹ λ _.
     keyed (codes "width") (number 2 8) ▹ λ w.
-    keyed (codes "operation") (number 1 MOST_INPUTS) ▹ λ n.
+    keyed (codes "operation") (number 1 3) ▹ λ n.
     small_term (scope_at w X n) ▹ λ _.
     optional (codes "assume") (small_term (scope_at w X n)))
 
@@ -87,9 +85,9 @@ budgets_parts b = (b.depth, (b.turns, b.conflicts))
 
 unfoldable pub budgets : Piece Budgets
 budgets = seen_as budgets_of budgets_parts (
-    keyed_or no_name_more (codes "depth") (number 1 MOST_DEPTH) ▹ λ _.
-    keyed (codes "turns") (number 0 MOST_TURNS) ▹ λ _.
-    keyed (codes "conflicts") (number 1 MOST_CONFLICTS))
+    keyed_or no_name_more (codes "depth") (number 1 5) ▹ λ _.
+    keyed (codes "turns") (number 0 4096) ▹ λ _.
+    keyed (codes "conflicts") (number 1 1000000))
 
 -- ---- rule NONTERMINAL { PRODUCTION }
 
@@ -107,7 +105,7 @@ node_production room =
 
 -- a leaf, which no node is left for where no production is
 abbrev pub leaf_production : Scope → ℕ → Piece Term
-leaf_production scope room = term_within scope false MOST_LEAF_NODES (if room == 0 then 0 else MOST_LEAF_NODES)
+leaf_production scope room = term_within scope false 64 (if room == 0 then 0 else 64)
 
 -- whether an operator and a nonterminal come
 abbrev pub opens_names : Words → Bool
@@ -136,13 +134,13 @@ names_of rules = map (λ (r : Rule). r.name) rules
 
 abbrev pub rule_name_judge : List Rule → Word → Result Word Cause
 rule_name_judge seen v =
-    if is_name v then (if nat_le MOST_RULES (length seen) then Err Count else if has_name (names_of seen) v then Err
+    if is_name v then (if nat_le 16 (length seen) then Err Count else if has_name (names_of seen) v then Err
     Twice else Ok v) else Err Syntax
 
 -- the name of a rule behind other rules
 unfoldable pub rule_name : List Rule → Piece Word
 rule_name seen =
-    token (rule_name_judge seen) (λ v. v) (λ v. IsTrue (is_name v) × (length seen < MOST_RULES) ×
+    token (rule_name_judge seen) (λ v. v) (λ v. IsTrue (is_name v) × (length seen < 16) ×
     (has_name (names_of seen) v ≡ false))
 
 -- how many productions rules have together
@@ -166,7 +164,7 @@ rule_parts r = (r.name, r.productions)
 unfoldable pub rule : Scope → List Rule → Piece Rule
 rule scope seen =
     seen_as rule_of rule_parts (keyed (codes "rule")
-    (rule_name seen ▹ λ _. productions scope (MOST_PRODUCTIONS - made seen)))
+    (rule_name seen ▹ λ _. productions scope (64 - made seen)))
 
 unfoldable pub rules : Scope → Piece (List Rule)
 rules scope = repeat (next_is (codes "rule")) (rule scope)

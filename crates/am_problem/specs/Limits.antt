@@ -11,8 +11,6 @@ use Rattle.am_tree.specs.Slots.{layout_of}
 use Rattle.am_tree.specs.Trees.{Rules}
 use Rattle.am_tree.specs.declared.grammar.Production.{Production}
 use Rattle.am_tree.specs.declared.grammar.Production.TheVariants.{Leaf, Node}
-use Rattle.am_problem.specs.declared.limits.TheConstants.{MOST_INPUTS, MOST_NODES, MOST_TURNS, MOST_CONFLICTS}
-use Rattle.am_problem.specs.declared.limits.TheConstants.{MOST_SLOTS, MOST_LOAD}
 use Rattle.am_problem.specs.Kinds.{fields_of}
 use Rattle.am_problem.specs.Loads.{load_of}
 use Rattle.am_problem.specs.Problem.{Problem}
@@ -24,7 +22,7 @@ slots_of p = length (layout_of p.rules p.starts p.depth)
 -- the term of an operation or an assumption
 pub record IsOperation (w inputs : ℕ) (t : Term) : Type 0 where
   pub fit : IsTrue (fits w inputs t)
-  pub small : nodes t ≤ MOST_NODES
+  pub small : nodes t ≤ 64
 
 -- a leaf is over the fields
 abbrev pub IsOver : ℕ → ℕ → Production → Type 0
@@ -45,19 +43,19 @@ pub record AreNames (rules : Rules) (called : List Word) : Type 0 where
 pub record IsFormed (p : Problem) : Type 0 where
   pub width : IsWidth p.width
   pub some_input : 1 ≤ p.inputs
-  pub few_inputs : p.inputs ≤ MOST_INPUTS
+  pub few_inputs : p.inputs ≤ 3
   pub operation : IsOperation p.width p.inputs p.operation
   pub assume : IfSome p.assume (IsOperation p.width p.inputs)
   pub grammar : IsGrammar p.rules p.starts p.depth
   pub leaves : All (All (IsOver p.width (p.inputs * fields_of p.kind))) p.rules
   pub names : AreNames p.rules p.names
   pub start_per_field : length p.starts ≡ fields_of p.kind
-  pub turns : p.turns ≤ MOST_TURNS
+  pub turns : p.turns ≤ 4096
   pub some_conflicts : 1 ≤ p.conflicts
-  pub few_conflicts : p.conflicts ≤ MOST_CONFLICTS
+  pub few_conflicts : p.conflicts ≤ 1000000
 
 -- a problem is within all limits
 pub record IsProblem (p : Problem) : Type 0 where
   pub formed : IsFormed p
-  pub slots : slots_of p ≤ MOST_SLOTS
-  pub load : load_of p ≤ MOST_LOAD
+  pub slots : slots_of p ≤ 256
+  pub load : load_of p ≤ 16777216

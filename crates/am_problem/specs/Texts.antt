@@ -13,7 +13,6 @@ use Rattle.am_syntax.specs.declared.refusal.ReadError.TheVariants.{NoMemory, Ref
 use Rattle.am_tree.specs.Trees.{Rules}
 use Rattle.am_tree.specs.declared.grammar.Production.{Production as Numbered}
 use Rattle.am_tree.specs.declared.grammar.Production.TheVariants.{Leaf, Node}
-use Rattle.am_problem.specs.declared.limits.TheConstants.{MOST_LOAD, MOST_SLOTS}
 use Rattle.am_problem.specs.Grammar.{has_name, names_of, problem}
 use Rattle.am_problem.specs.Limits.{IsProblem, slots_of}
 use Rattle.am_problem.specs.Lines.{Lines, Production, Rule, leaf, node}
@@ -102,8 +101,8 @@ draft s = (problem.read >>= λ l. done (draft_with s.tokens l)) s
 -- the problem, where it has no more slots and no greater load than allowed
 abbrev pub sized : Problem → Result Problem Refusal
 sized p =
-    if nat_lt MOST_SLOTS (slots_of p) then Err (Slots (slots_of p)) else
-    if nat_lt MOST_LOAD (load_of p) then Err (Load (load_of p)) else Ok p
+    if nat_lt 256 (slots_of p) then Err (Slots (slots_of p)) else
+    if nat_lt 16777216 (load_of p) then Err (Load (load_of p)) else Ok p
 
 abbrev pub settled_by : Lines → Option ℕ → Result Problem Refusal
 settled_by l (Some place) = Err (Undefined place)

@@ -2,7 +2,7 @@
 
 ghost use Rattle.std.specs.Prelude.{◌≡◌};
 ghost use Rattle.am_problem.specs.Grammar.{kind_named};
-ghost use Rattle.am_problem.specs.Kinds.{abstraction_of, kind_name, meaning_of, member_term_of, valid_term_of};
+ghost use Rattle.am_problem.specs.Kinds.{abstraction_of, kind_name};
 ghost use Rattle.am_problem.specs.lemmas.KindLaws.{laws_of};
 
 use am_bits::{Congruence, Known, Parity};
@@ -126,23 +126,7 @@ macro_rules! at_domain {
 }
 
 impl Domain for Kind {
-    ghost meaning = { meaning_of };
-
-    ghost top = { λ kind. (abstraction_of kind).top };
-
-    ghost of_word = { λ kind. (abstraction_of kind).of_word };
-
-    ghost some_member = { λ kind. (abstraction_of kind).some_member };
-
-    ghost join = { λ kind. (abstraction_of kind).join };
-
-    ghost tidy = { λ kind. (abstraction_of kind).tidy };
-
-    ghost rank = { λ kind. (abstraction_of kind).rank };
-
-    ghost valid_term = { valid_term_of };
-
-    ghost member_term = { member_term_of };
+    ghost abstraction = { abstraction_of };
 
     fn fields(&self) -> u32 {
         at_domain!(self, domain => domain.fields())
@@ -188,21 +172,5 @@ impl Domain for Kind {
         at_domain!(self, domain => domain.member_term(alloc, w))
     }
 
-    ghost has_fields = { λ kind. (laws_of kind).has_fields };
-
-    ghost has_members = { λ kind. (laws_of kind).has_members };
-
-    ghost has_top = { λ kind. (laws_of kind).has_top };
-
-    ghost holds_words = { λ kind. (laws_of kind).holds_words };
-
-    ghost joins_above = { λ kind. (laws_of kind).joins_above };
-
-    ghost descends = { λ kind. (laws_of kind).descends };
-
-    ghost tidies = { λ kind. (laws_of kind).tidies };
-
-    ghost tells_validity = { λ kind. (laws_of kind).tells_validity };
-
-    ghost tells_membership = { λ kind. (laws_of kind).tells_membership };
+    ghost keeps_laws = { laws_of };
 }

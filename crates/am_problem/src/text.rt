@@ -3,6 +3,7 @@
 ghost use Rattle.std.specs.Prelude.{◌≡◌, ℕ, List, Err, IfErr, IfOk, None, Ok};
 ghost use Rattle.am_text.specs.Tokens.{bad_byte, text_left};
 ghost use Rattle.am_syntax.specs.Readers.{Makes};
+ghost use Rattle.am_syntax.specs.declared.refusal.Failure.TheVariants.{NoMemory};
 ghost use Rattle.am_syntax.specs.Texts.{Answers, MakesAt, text_value};
 ghost use Rattle.am_problem.specs.Grammar.{names_of, problem};
 ghost use Rattle.am_problem.specs.Problem.{Problem as Data};
@@ -16,7 +17,7 @@ use crate::header::{read_budgets, read_domain, read_header, read_starts};
 use crate::problem::Problem;
 use crate::rules::{has_name, read_rules};
 use am_domain::Domain;
-use am_syntax::{Failure, Letter, ReadError, close, is_name, open, placed, take_key};
+use am_syntax::{Failure, Letter, ReadError, close, follow, is_name, open, placed, take_key};
 use am_text::Cursor;
 use std::alloc::Global;
 
@@ -61,13 +62,8 @@ fn first_undefined(text: &mut Cursor<'_>, rules: &[Rule<'_>]) -> Option<usize>
     None
 }
 
-/// Takes a problem up to its `end`, and notes the first name that no rule has.
-///
-/// # Errors
-///
-/// `Refused`: the first token that no problem has here. The cursor stands at it. `NoMemory`: the
-/// cursor stands at some token that the call had reached.
-pub fn take_problem<'a>(alloc: Global, text: &mut Cursor<'a>) -> Result<Draft<'a>, Failure>
+/// A problem up to its `end`, with the first name that no rule has.
+fn read_draft<'a>(alloc: Global, text: &mut Cursor<'a>) -> Result<Draft<'a>, Failure>
     ensures { Makes seen_draft result text.old text.new draft }
 {
     let mut ahead = text.fork();
@@ -76,12 +72,27 @@ pub fn take_problem<'a>(alloc: Global, text: &mut Cursor<'a>) -> Result<Draft<'a
     Ok(Draft { lines, undefined })
 }
 
+/// Takes a problem up to its `end`, and notes the first name that no rule has.
+///
+/// # Errors
+///
+/// `Refused`: the first token that no problem has here. The cursor stands at it. `NoMemory`: the
+/// cursor stays.
+pub fn take_problem<'a>(alloc: Global, text: &mut Cursor<'a>) -> Result<Draft<'a>, Failure>
+    ensures read { Makes seen_draft result text.old text.new draft }
+    ensures stays { result ≡ Err NoMemory → text.new ≡ text.old }
+{
+    let mut ahead = text.fork();
+    let read = read_draft(alloc, &mut ahead);
+    follow(text, ahead, read)
+}
+
 /// Reads a problem up to its `end`, in the middle of a text.
 ///
 /// # Errors
 ///
 /// `Refused`: the first token that no problem has here. The cursor stands at it. `NoMemory`: the
-/// cursor stands at some token that the call had reached.
+/// cursor stays.
 pub fn problem_at<'a>(alloc: Global, c: &mut Cursor<'a>) -> Result<Draft<'a>, ReadError>
     ensures { MakesAt seen_draft result c.old c.new draft }
 {

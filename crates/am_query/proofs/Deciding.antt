@@ -4,7 +4,7 @@ use Rattle.am_domain.specs.Laws.{is_member}
 use Rattle.am_domain.specs.Question.{IsMember}
 use Rattle.am_domain.specs.Tuple.{IsTuple}
 use Rattle.am_domain.proofs.Laws.{is_member-tells}
-use Rattle.am_problem.specs.Kinds.{fields_of, meaning_of, member_term_of}
+use Rattle.am_problem.specs.Kinds.{abstraction_of, fields_of, member_term_of}
 use Rattle.am_problem.specs.Limits.{IsFormed}
 use Rattle.am_problem.specs.Problem.{Problem, question_of}
 use Rattle.am_problem.specs.lemmas.KindLaws.{laws_of}
@@ -15,9 +15,9 @@ module _ (p : Problem) (formed : IsFormed p) (tuple : List ℕ) (is : IsTuple p.
   member_or = go (is_member p.width (member_term_of p.kind p.width) tuple c) refl
     where
       go : (b : Bool) → is_member p.width (member_term_of p.kind p.width) tuple c ≡ b → IsMember (question_of p) tuple c ⊎ (¬ IsMember (question_of p) tuple c)
-      go true e = inl ((is_member-tells (meaning_of p.kind) (member_term_of p.kind) (laws_of p.kind).tells_membership p.width formed.width tuple is c below).0 e)
+      go true e = inl ((is_member-tells (abstraction_of p.kind) (laws_of p.kind).tells_membership p.width formed.width tuple is c below).0 e)
       go false e = inr (λ member.
-          let told = (is_member-tells (meaning_of p.kind) (member_term_of p.kind) (laws_of p.kind).tells_membership p.width formed.width tuple is c below).1 member in
+          let told = (is_member-tells (abstraction_of p.kind) (laws_of p.kind).tells_membership p.width formed.width tuple is c below).1 member in
           absurd (cc (e, told)))
 
   -- a word that can't be outside is a member

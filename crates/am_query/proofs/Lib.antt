@@ -18,7 +18,7 @@ pub mod Sizes
 pub mod Stating
 pub mod Light
 pub mod Unsound
-pub mod Closer
+pub mod CloserTransformers
 pub mod Answering
 pub mod SoundAnswers
 pub mod Loads

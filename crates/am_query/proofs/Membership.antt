@@ -16,7 +16,7 @@ use Rattle.am_domain.specs.Laws.{is_member}
 use Rattle.am_domain.specs.Question.{IsMember}
 use Rattle.am_domain.specs.Tuple.{IsTuple}
 use Rattle.am_domain.proofs.Laws.{is_member-tells}
-use Rattle.am_problem.specs.Kinds.{fields_of, meaning_of, member_term_of, valid_term_of}
+use Rattle.am_problem.specs.Kinds.{abstraction_of, fields_of, member_term_of, valid_term_of}
 use Rattle.am_problem.specs.Limits.{IsFormed}
 use Rattle.am_problem.specs.Problem.{Problem, question_of}
 use Rattle.am_problem.specs.lemmas.KindLaws.{laws_of}
@@ -56,7 +56,7 @@ module _ (p : Problem) (formed : IsFormed p) where
   tells a c = is_member w (member_term_of p.kind w) a c
 
   tells-members : (a : List ℕ) → IsTuple w k a → (c : ℕ) → c < 2 ^ w → IsTrue (tells a c) ↔ IsIn a c
-  tells-members a tuple c below = is_member-tells (meaning_of p.kind) (member_term_of p.kind) (laws_of p.kind).tells_membership w formed.width a tuple c below
+  tells-members a tuple c below = is_member-tells (abstraction_of p.kind) (laws_of p.kind).tells_membership w formed.width a tuple c below
 
   member-fits : (tuple : List (List ℕ)) (word : List ℕ) → length (tuple ++ word ∷ []) ≡ k + 1 → IsTrue (fits w (length (tuple ++ word ∷ [])) (member_term_of p.kind w))
   member-fits tuple word e = rw e ((laws_of p.kind).tells_membership w formed.width).fit

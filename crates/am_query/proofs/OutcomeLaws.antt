@@ -1,5 +1,5 @@
 -- What is accepted is right, and what a synthesis shows is accepted.
-use Rattle.std.proofs.Common.{◌≡◌, ℕ, suc, List, [], ◌∷◌, length, map, zip, refl, sym, subst, arith}
+use Rattle.std.proofs.Common.{◌≡◌, ℕ, suc, List, [], ◌∷◌, length, map, zip, refl, sym, ap, subst, arith}
 use Rattle.std.specs.List.{All}
 use Rattle.std.proofs.lemmas.List.Elements.{All-cons, All-head, All-map, All-nil, All-tail, All-weaker}
 use Rattle.am_bv.specs.declared.term.Term.{Term}
@@ -67,10 +67,9 @@ module _ (p : Problem) where
       }
 
   -- terms that are given, one for each start, are a transformer
-  pub derivable : (terms : List Term) → length terms ≡ length p.starts → (terms_inside p terms).Passes →
-      IsTransformerOf p terms
-  derivable terms same inside =
-      let t = trees_of_given 0 p.starts terms same inside in
+  pub derivable : (terms : List Term) → (terms_inside p terms).Passes → IsTransformerOf p terms
+  derivable terms inside =
+      let t = trees_of_given 0 p.starts terms inside.1 inside.0 in
       record { trees = t.trees; derive = t.derive; give = t.give }
 
   -- the terms of trees are given
@@ -82,15 +81,26 @@ module _ (p : Problem) where
   given_of_trees i (n ∷ ns) (t ∷ ts) derive =
       ((t, record { derives = derive.0; gives = refl }), given_of_trees (suc i) ns ts derive.1)
 
+  -- trees from the starts have a term for each
+  one_each : (starts : List ℕ) (trees : List Tree) → AreTrees p.rules starts p.depth trees →
+      length (terms_of p.rules starts trees) ≡ length starts
+  one_each [] [] derive = refl
+  one_each [] (t ∷ ts) derive = absurd derive
+  one_each (n ∷ ns) [] derive = absurd derive
+  one_each (n ∷ ns) (t ∷ ts) derive = ap suc (one_each ns ts derive.1)
+
   inside : (terms : List Term) → IsTransformerOf p terms → (terms_inside p terms).Passes
-  inside terms are = subst (AreInside 0 p.starts) (sym are.give) (given_of_trees 0 p.starts are.trees are.derive)
+  inside terms are = (
+    subst (AreInside 0 p.starts) (sym are.give) (given_of_trees 0 p.starts are.trees are.derive),
+    subst (λ (ts : List Term). length ts ≡ length p.starts) (sym are.give) (one_each p.starts are.trees are.derive),
+  )
 
 pub accepted_is_right : AcceptedIsRight
 accepted_is_right folding p formed (Best t trace sound_log best_log) fits passes =
     let q = question_of p in
     let mean = refutations_mean folding p formed in
     let s = after_trace trace in
-    let derives = derivable p t fits.0 passes.0 in
+    let derives = derivable p t passes.0 in
     let positive = all_passed (IsTrueHere p) PositiveFalse 0 s.positives passes.1.0 in
     let negative = all_passed (IsExcluded p t) NegativeFalse 0 s.negatives passes.1.1.0 in
     let valid = All-weaker (IsExcluded p t) (IsValidHere p) (λ e h. h.0) s.negatives negative in
@@ -100,7 +110,7 @@ accepted_is_right folding p formed (Best t trace sound_log best_log) fits passes
     (All-map (IsTrueExample q) (positive_of p) s.positives positive)
     (All-map (IsValidExample q) (negative_of p) s.negatives valid)
     (All-map (Excludes q t) (negative_of p) s.negatives excludes)
-    (mean.closest t s.positives s.negatives best_log derives fits.1.positives fits.1.negatives passes.1.1.1.1)
+    (mean.closest t s.positives s.negatives best_log derives fits.positives fits.negatives passes.1.1.1.1)
 accepted_is_right folding p formed (Absent trace log) fits passes =
     let q = question_of p in
     let mean = refutations_mean folding p formed in

@@ -3,7 +3,7 @@ use Rattle.std.proofs.Common.{◌≡◌, ℕ, zero, suc, ◌+◌, ◌-◌, ◌*�
 use Rattle.std.specs.Prelude.{IsTrue, Option, slice_get}
 use Rattle.std.specs.List.{AllByRecursion, AllZip}
 use Rattle.std.proofs.Math.Nat.{mul-le-mul_right, one-le-pow, pow-le-pow_right, pow-succ'}
-use Rattle.std.proofs.lemmas.Bool.{and_parts, eqb-true, leb-true}
+use Rattle.std.proofs.lemmas.Bool.{and_parts, eqb-true}
 use Rattle.std.proofs.lemmas.List.Elements.{All-cons, All-nil, recursion_from_All}
 use Rattle.std.proofs.lemmas.List.Sums.{sum_by-cons}
 use Rattle.am_bv.specs.declared.op.Op.{Op}
@@ -17,7 +17,7 @@ use Rattle.am_tree.specs.declared.grammar.Production.TheVariants.{Leaf, Node}
 use Rattle.am_tree.specs.declared.tree.Tree.{Tree}
 use Rattle.am_tree.specs.Grammars.{is_production}
 use Rattle.am_tree.specs.Trees.{AreDerived, Derives, Rules, children_of, production_at, production_of, term_by, term_of, terms_at}
-use Rattle.am_tree.proofs.Laws.{term-by}
+use Rattle.am_tree.proofs.Laws.{leaf-small, term-by}
 use Rattle.am_slot.specs.Template.{weight_of_block}
 use Rattle.am_problem.specs.Limits.{IsFormed}
 use Rattle.am_problem.specs.Problem.{Problem}
@@ -93,7 +93,7 @@ module _ (p : Problem) (formed : IsFormed p) where
   production-small d n k each ts None e h = absurd h
   production-small d n k each ts (Some (Leaf t)) e h =
       let four : 0 < 4 = omega arith in
-      let few : nodes t ≤ 64 = leb-true (nodes t) 64 (is_formed n k (Leaf t) e) in
+      let few : nodes t ≤ 64 = leaf-small (length p.rules) t (is_formed n k (Leaf t) e) in
       omega (arith, few, one-le-pow (suc d) 4 four)
   production-small d n k each ts (Some (Node op names)) e h =
       let three : length names ≤ 3 = omega (arith, as_many n k op names e, arity_most op) in

@@ -1,5 +1,5 @@
 -- Tests have one verdict, and verdicts on items and logs.
-use Rattle.std.proofs.Common.{◌≡◌, ℕ, zero, suc, ◌+◌, ◌⊎◌, Bool, List, [], ◌∷◌, ◌++◌, take, zip, refl, sym, ◌∙◌, ap}
+use Rattle.std.proofs.Common.{◌≡◌, ℕ, zero, suc, ◌+◌, ◌⊎◌, Bool, List, [], ◌∷◌, ◌++◌, length, take, zip, refl, sym, ◌∙◌, ap}
 use Rattle.std.proofs.Common.{subst, inl, inr, arith, add-zero, zero-add}
 use Rattle.std.proofs.lemmas.List.{same_from_push}
 use Rattle.std.specs.Prelude.{Some, Ok, Err, Result, slice_get}
@@ -9,7 +9,7 @@ use Rattle.am_chain.specs.Replay.{EndsEmpty, LogFault, replay}
 use Rattle.am_chain.specs.declared.chain.Chain.{Chain}
 use Rattle.am_problem.specs.Problem.{Problem}
 use Rattle.am_query.specs.Acceptance.{IsLogFault, Test, acceptance, ◌before◌, condition, each_is, refuted}
-use Rattle.am_query.specs.AcceptanceLaws.{ItemsAreTestedInTurn, LogsAreTestedInTurn, VerdictsAreUnique, VerdictsExist}
+use Rattle.am_query.specs.AcceptanceLaws.{LogsAreTestedInTurn, VerdictsAreUnique, VerdictsExist}
 use Rattle.am_query.specs.Turns.{after_trace}
 use Rattle.am_query.specs.declared.fault.Fault.{Fault}
 use Rattle.am_query.specs.declared.fault.Fault.TheVariants.{BadChain, NegativeFalse, NotEmpty, PositiveFalse}
@@ -63,7 +63,8 @@ one_log j clauses log = record {
 
 one_verdict : (folding : Bool) (p : Problem) (o : Outcome) → HasOneVerdict (acceptance folding p o)
 one_verdict folding p (Best t trace sound_log best_log) =
-    one_before _ _ (one_each _ TermOutside 0 (zip p.starts t))
+    one_before _ _
+    (one_before _ _ (one_each _ TermOutside 0 (zip p.starts t)) (one_condition (length t ≡ length p.starts) _))
     (one_before _ _ (one_each _ PositiveFalse 0 (after_trace trace).positives)
     (one_before _ _ (one_each _ NegativeFalse 0 (after_trace trace).negatives)
     (one_before _ _ (one_log 0 _ sound_log) (one_log 1 _ best_log))))
@@ -130,9 +131,21 @@ decided_log j clauses log = go (replay clauses [] log) refl
     go (Err bad) e = let fault = BadChain j bad.chain bad.fault.step bad.fault.why in
         inr (fault, at_log j clauses log (Err bad) fault e refl)
 
+-- numbers are the same or not
+same_or_not : (m n : ℕ) → (m ≡ n) ⊎ (¬ (m ≡ n))
+same_or_not zero zero = inl refl
+same_or_not zero (suc n) = inr (λ e. omega (arith, e))
+same_or_not (suc m) zero = inr (λ e. omega (arith, e))
+same_or_not (suc m) (suc n) = elim (same_or_not m n) [
+  | inl same ↦ inl (ap suc same)
+  | inr other ↦ inr (λ e. other (omega (arith, e)))
+]
+
 pub verdicts_exist : VerdictsExist
 verdicts_exist folding p decide (Best t trace sound_log best_log) =
-    decided_before _ _ (decided_each _ TermOutside 0 (zip p.starts t) (λ pair. decide.given pair.0 pair.1))
+    decided_before _ _
+    (decided_before _ _ (decided_each _ TermOutside 0 (zip p.starts t) (λ pair. decide.given pair.0 pair.1))
+    (decided_condition (length t ≡ length p.starts) _ (same_or_not (length t) (length p.starts))))
     (decided_before _ _ (decided_each _ PositiveFalse 0 (after_trace trace).positives decide.true)
     (decided_before _ _ (decided_each _ NegativeFalse 0 (after_trace trace).negatives (decide.excluded t))
     (decided_before _ _ (decided_log 0 _ sound_log) (decided_log 1 _ best_log))))
@@ -162,7 +175,11 @@ first_fails Good fault n (suc i) (x ∷ xs) item good is bad =
     let P : ℕ → Type 0 = λ m. (each_is Good fault (suc n) xs).Fails (fault m) in
     inr (All-head Good x (take i xs) good, subst P same later)
 
-pub items_are_tested_in_turn : ItemsAreTestedInTurn
+-- a condition on each item passes where all items meet it, and fails with the number of the first that doesn't
+pub items_are_tested_in_turn : (A : Type 0) (Good : A → Type 0) (fault : ℕ → Fault) (items : List A) →
+    (All Good items → (each_is Good fault 0 items).Passes)
+    × ((i : ℕ) (item : A) → All Good (take i items) → slice_get items i ≡ Some item → ¬ Good item →
+    (each_is Good fault 0 items).Fails (fault i))
 items_are_tested_in_turn A Good fault items = (
   each_passes Good fault 0 items,
   λ i item good is bad.

@@ -1,5 +1,5 @@
 -- When an outcome is accepted, by its contents alone: conditions in order, and the fault of the first that fails.
-use Rattle.std.specs.Prelude.{ℕ, suc, ◌≡◌, ◌⊎◌, Bool, List, [], ◌∷◌, Result, Ok, Err, zip}
+use Rattle.std.specs.Prelude.{ℕ, suc, ◌≡◌, ◌⊎◌, Bool, List, [], ◌∷◌, Result, Ok, Err, length, zip}
 use Rattle.am_bv.specs.declared.term.Term.{Term}
 use Rattle.am_chain.specs.declared.chain.Chain.{Chain}
 use Rattle.am_chain.specs.Replay.{EndsEmpty, LogFault, Refutes, replay}
@@ -51,8 +51,12 @@ refuted j clauses log = record { Passes = Refutes clauses log; Fails = IsLogFaul
 abbrev pub IsGiven : Problem → ℕ → Term → Type 0
 IsGiven p start term = (t : Tree) × IsTreeOf p.rules p.depth start term t
 
+-- each term is given from its start, and there are as many as there are starts
 abbrev pub terms_inside : Problem → List Term → Test
-terms_inside p terms = each_is (λ (start, term). IsGiven p start term) TermOutside 0 (zip p.starts terms)
+terms_inside p terms =
+    let pairs = zip p.starts terms in
+    each_is (λ (start, term). IsGiven p start term) TermOutside 0 pairs
+    before condition (length terms ≡ length p.starts) (TermOutside (length pairs))
 
 abbrev pub positives_true : Problem → List Positive → Test
 positives_true p positives = each_is (λ e. IsTrueExample (question_of p) (positive_of p e)) PositiveFalse 0 positives

@@ -1,5 +1,5 @@
 -- Laws of acceptance: each outcome has one verdict, and what is accepted is right.
-use Rattle.std.specs.Prelude.{ℕ, ◌≡◌, ◌⊎◌, Bool, List, [], length, take, slice_get, Some, All, Err}
+use Rattle.std.specs.Prelude.{ℕ, ◌≡◌, ◌⊎◌, Bool, List, [], Err}
 use Rattle.am_bv.specs.declared.term.Term.{Term}
 use Rattle.am_chain.specs.declared.chain.Chain.{Chain}
 use Rattle.am_chain.specs.Replay.{Derives, EndsEmpty, LogFault, Refutes, replay}
@@ -10,7 +10,7 @@ use Rattle.am_problem.specs.Limits.{IsFormed}
 use Rattle.am_problem.specs.Problem.{Problem, question_of}
 use Rattle.am_problem.specs.declared.examples.Negative.{Negative}
 use Rattle.am_problem.specs.declared.examples.Positive.{Positive}
-use Rattle.am_query.specs.Acceptance.{IsAccepted, IsExcluded, IsFault, IsGiven, each_is, refuted}
+use Rattle.am_query.specs.Acceptance.{IsAccepted, IsExcluded, IsFault, IsGiven, refuted}
 use Rattle.am_query.specs.Formulas.{circuit_of}
 use Rattle.am_query.specs.Turns.{AreRows, IsCandidate, IsTrace, after_trace}
 use Rattle.am_query.specs.declared.fault.Fault.{Fault}
@@ -39,13 +39,6 @@ abbrev pub VerdictsExist : Type 0
 VerdictsExist = (folding : Bool) (p : Problem) → AreDecided p → (o : Outcome) →
     IsAccepted folding p o ⊎ ((f : Fault) × IsFault folding p o f)
 
--- a condition on each item passes where all items meet it, and fails with the number of the first that doesn't
-abbrev pub ItemsAreTestedInTurn : Type 1
-ItemsAreTestedInTurn = (A : Type 0) (Good : A → Type 0) (fault : ℕ → Fault) (items : List A) →
-    (All Good items → (each_is Good fault 0 items).Passes)
-    × ((i : ℕ) (item : A) → All Good (take i items) → slice_get items i ≡ Some item → ¬ Good item →
-    (each_is Good fault 0 items).Fails (fault i))
-
 -- a refutation fails with its first fault, and, where it has none, where it doesn't end with the empty clause
 abbrev pub LogsAreTestedInTurn : Type 0
 LogsAreTestedInTurn = (j : ℕ) (clauses derived : List (List ℕ)) (log : List Chain) →
@@ -55,9 +48,9 @@ LogsAreTestedInTurn = (j : ℕ) (clauses derived : List (List ℕ)) (log : List 
 
 -- ---- what is accepted is right
 
--- an outcome has a term for each start, and rows of the problem
+-- the examples of an outcome have rows of the problem
 abbrev pub FitsInto : Problem → Outcome → Type 0
-FitsInto p (Best t trace sound_log best_log) = (length t ≡ length p.starts) × AreRows p (after_trace trace)
+FitsInto p (Best t trace sound_log best_log) = AreRows p (after_trace trace)
 FitsInto p (Absent trace log) = AreRows p (after_trace trace)
 FitsInto p (Turns trace) = Unit {0}
 FitsInto p (Conflicts trace asked log) = Unit {0}

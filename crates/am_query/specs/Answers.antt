@@ -5,20 +5,18 @@ use Rattle.am_lit.specs.Clause.{IsFormula}
 use Rattle.am_chain.specs.declared.chain.Chain.{Chain}
 use Rattle.am_chain.specs.Replay.{Refutes}
 use Rattle.am_domain.specs.Question.{IsSound}
-use Rattle.am_domain.specs.Examples.{Excludes, NoneIsCloser, NoneSatisfies}
-use Rattle.am_problem.specs.Examples.{negative_of, negatives_of, positives_of}
+use Rattle.am_domain.specs.Examples.{NoneIsCloser, NoneSatisfies}
+use Rattle.am_problem.specs.Examples.{negatives_of, positives_of}
 use Rattle.am_problem.specs.Problem.{Problem, question_of}
 use Rattle.am_problem.specs.declared.examples.Negative.{Negative}
 use Rattle.am_problem.specs.declared.examples.Positive.{Positive}
 use Rattle.am_solve.specs.Answers.{ChainsAreShort, IsProgress}
 use Rattle.am_query.specs.Formulas.{circuit_of}
-use Rattle.am_query.specs.Transformers.{IsAdmitted, IsTransformerOf, IsUncovered, Suits}
-use Rattle.am_query.specs.declared.answers.FitAnswer.{FitAnswer}
-use Rattle.am_query.specs.declared.answers.FitAnswer.TheVariants.{Found, Nothing, Spent as FitSpent}
-use Rattle.am_query.specs.declared.answers.PreciseAnswer.{PreciseAnswer}
-use Rattle.am_query.specs.declared.answers.PreciseAnswer.TheVariants.{Best, Better, Spent as PreciseSpent}
-use Rattle.am_query.specs.declared.answers.SoundAnswer.{SoundAnswer}
-use Rattle.am_query.specs.declared.answers.SoundAnswer.TheVariants.{Fails, Holds, Spent as SoundSpent}
+use Rattle.am_query.specs.Transformers.{IsTransformerOf, IsUncovered, Suits}
+use Rattle.am_query.specs.Witnesses.{IsCloser}
+use Rattle.am_query.specs.declared.answers.Closer.{Closer}
+use Rattle.am_query.specs.declared.answers.QueryAnswer.{QueryAnswer}
+use Rattle.am_query.specs.declared.answers.QueryAnswer.TheVariants.{Found, Refuted, Spent}
 use Rattle.am_query.specs.declared.query.Query.{Query}
 use Rattle.am_query.specs.declared.query.Query.TheVariants.{Fit, Precise, Sound}
 
@@ -42,49 +40,30 @@ pub record IsSpentOn (p : Problem) (q : Query) (limit : ℕ) (log : List Chain) 
   pub short : ChainsAreShort (circuit_of true p q).vars log
   pub numbered : IsNumbered p q
 
--- ---- a fit
-
--- a transformer that satisfies the examples; or none does; or the limit was reached
-abbrev pub IsFitAnswer : Problem → List Positive → List Negative → ℕ → FitAnswer → Type 0
-IsFitAnswer p positives negatives limit (Found t) = IsTransformerOf p t × Suits p t positives negatives
-IsFitAnswer p positives negatives limit (Nothing log) =
-    NoneSatisfies (question_of p) (positives_of p positives) (negatives_of p negatives)
-    × IsRefuted p (Fit positives negatives) limit log
-IsFitAnswer p positives negatives limit (FitSpent log) = IsSpentOn p (Fit positives negatives) limit log
-
-abbrev pub IsFitSpent : FitAnswer → Type 0
-IsFitSpent (Found t) = ⊥
-IsFitSpent (Nothing log) = ⊥
-IsFitSpent (FitSpent log) = Unit {0}
-
--- ---- soundness
-
--- the transformer is sound; or it doesn't cover a true example; or the limit was reached
-abbrev pub IsSoundAnswer : Problem → List Term → ℕ → SoundAnswer → Type 0
-IsSoundAnswer p t limit (Holds log) = IsSound (question_of p) t × IsRefuted p (Sound t) limit log
-IsSoundAnswer p t limit (Fails e) = IsUncovered p t e
-IsSoundAnswer p t limit (SoundSpent log) = IsSpentOn p (Sound t) limit log
-
-abbrev pub IsSoundSpent : SoundAnswer → Type 0
-IsSoundSpent (Holds log) = ⊥
-IsSoundSpent (Fails e) = ⊥
-IsSoundSpent (SoundSpent log) = Unit {0}
-
--- ---- precision
-
--- a transformer that satisfies the examples, and a word that it excludes and the given one admits; or there is none; or
 -- the limit was reached
-abbrev pub IsPreciseAnswer : Problem → List Term → List Positive → List Negative → ℕ → PreciseAnswer → Type 0
-IsPreciseAnswer p t positives negatives limit (Better other e) =
-    IsTransformerOf p other × Suits p other positives negatives
-    × Excludes (question_of p) other (negative_of p e) × IsAdmitted p t e
-IsPreciseAnswer p t positives negatives limit (Best log) =
-    NoneIsCloser (question_of p) t (positives_of p positives) (negatives_of p negatives)
-    × IsRefuted p (Precise t positives negatives) limit log
-IsPreciseAnswer p t positives negatives limit (PreciseSpent log) =
-    IsSpentOn p (Precise t positives negatives) limit log
+abbrev pub IsSpent : {W : Type 0} → QueryAnswer W → Type 0
+IsSpent (Found w) = ⊥
+IsSpent (Refuted log) = ⊥
+IsSpent (Spent log) = Unit {0}
 
-abbrev pub IsPreciseSpent : PreciseAnswer → Type 0
-IsPreciseSpent (Better other e) = ⊥
-IsPreciseSpent (Best log) = ⊥
-IsPreciseSpent (PreciseSpent log) = Unit {0}
+-- what was sought is found, and this is one; or there is none; or the limit was reached
+abbrev pub IsAnswerTo : {W : Type 0} → Problem → Query → ℕ → (W → Type 0) → Type 0 → QueryAnswer W → Type 0
+IsAnswerTo p q limit IsOne ThereIsNone (Found w) = IsOne w
+IsAnswerTo p q limit IsOne ThereIsNone (Refuted log) = ThereIsNone × IsRefuted p q limit log
+IsAnswerTo p q limit IsOne ThereIsNone (Spent log) = IsSpentOn p q limit log
+
+-- a transformer that satisfies the examples
+abbrev pub IsFitAnswer : Problem → List Positive → List Negative → ℕ → QueryAnswer (List Term) → Type 0
+IsFitAnswer p positives negatives limit = IsAnswerTo p (Fit positives negatives) limit
+    (λ t. IsTransformerOf p t × Suits p t positives negatives)
+    (NoneSatisfies (question_of p) (positives_of p positives) (negatives_of p negatives))
+
+-- a true example that the transformer doesn't cover, or it is sound
+abbrev pub IsSoundAnswer : Problem → List Term → ℕ → QueryAnswer Positive → Type 0
+IsSoundAnswer p t limit = IsAnswerTo p (Sound t) limit (IsUncovered p t) (IsSound (question_of p) t)
+
+-- a transformer that satisfies the examples, and a word that it excludes and the given one admits
+abbrev pub IsPreciseAnswer : Problem → List Term → List Positive → List Negative → ℕ → QueryAnswer Closer → Type 0
+IsPreciseAnswer p t positives negatives limit = IsAnswerTo p (Precise t positives negatives) limit
+    (λ c. IsCloser p t positives negatives c.term c.example)
+    (NoneIsCloser (question_of p) t (positives_of p positives) (negatives_of p negatives))

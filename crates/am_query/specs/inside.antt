@@ -4,3 +4,4 @@ pub mod Weights
 pub mod Words
 pub mod Parts
 pub mod Chosen
+pub mod Solved

@@ -3,35 +3,30 @@
 use am_chain::Log;
 use am_problem::{Negative, Positive, Transformer};
 
-/// Whether some transformer covers the positive examples, and excludes the negative ones.
+/// The answer to a query.
 #[derive(Drop)]
-pub enum FitAnswer {
-    /// This one does.
-    Found(Transformer),
-    /// None does: the log refutes the query's formula.
-    Nothing(Log),
+pub enum QueryAnswer<W> {
+    /// What was sought: this is one.
+    Found(W),
+    /// There is none: the log refutes the query's formula.
+    Refuted(Log),
     /// The limit was reached.
     Spent(Log),
 }
 
-/// Whether a transformer is sound.
-#[derive(Drop)]
-pub enum SoundAnswer {
-    /// It is: the log refutes the query's formula.
-    Holds(Log),
-    /// It doesn't cover this true example.
-    Fails(Positive),
-    /// The limit was reached.
-    Spent(Log),
-}
+/// Whether some transformer covers the positive examples, and excludes the negative ones: such a transformer.
+pub type FitAnswer = QueryAnswer<Transformer>;
 
-/// Whether some transformer that satisfies the examples excludes a word that a given one admits.
+/// Whether a transformer isn't sound: a true example that it doesn't cover.
+pub type SoundAnswer = QueryAnswer<Positive>;
+
+/// Whether some transformer that satisfies the examples is closer than a given one.
+pub type PreciseAnswer = QueryAnswer<Closer>;
+
+/// A transformer that satisfies the examples and excludes a word, at some inputs, that a given one admits.
 #[derive(Drop)]
-pub enum PreciseAnswer {
-    /// This one does, at this example.
-    Better(Transformer, Negative),
-    /// None does: the log refutes the query's formula.
-    Best(Log),
-    /// The limit was reached.
-    Spent(Log),
+pub struct Closer {
+    pub term: Transformer,
+    /// The word at the inputs.
+    pub example: Negative,
 }

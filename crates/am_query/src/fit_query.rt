@@ -5,20 +5,19 @@ ghost use Rattle.std.specs.List.{range_with_len};
 ghost use Rattle.am_gate.specs.Circuit.{HasInputs, HasRoom, start};
 ghost use Rattle.am_gate.specs.Build.{Follows};
 ghost use Rattle.am_slot.specs.Template.{selectors_of};
-ghost use Rattle.am_query.specs.Answers.{IsFitAnswer, IsFitSpent};
+ghost use Rattle.am_query.specs.Answers.{IsFitAnswer, IsSpent};
 ghost use Rattle.am_query.specs.Formulas.{encoding_of, fit};
 ghost use Rattle.am_query.specs.Queries.{AreFitted, input_count};
 ghost use Rattle.am_query.specs.declared.query.Query.TheVariants.{Fit};
 ghost use Rattle.am_query.specs.inside.Stated.{IsStated};
 
-use crate::answers::FitAnswer;
+use crate::answers::{FitAnswer, QueryAnswer};
 use crate::stated::{Stated, Variables, new_circuit};
 use crate::statements::Statements;
 use am_chain::soundness::refutations_are_sound;
 use am_gate::Circuit;
 use am_problem::{Negatives, Positives, Problem};
 use am_slot::Template;
-use am_solve::{Answer, solve};
 use std::alloc::{AllocError, Global};
 
 /// Looks for a transformer that satisfies the examples, with at most `limit` clauses derived.
@@ -36,22 +35,19 @@ pub fn fit(
     requires least { 1 ≤ limit }
     requires most { limit ≤ 2 ^ 30 }
     ensures answer { IfOk result (IsFitAnswer p.now pos.now neg.now limit) }
-    ensures enough { IfOk result (λ a. 3 ^ input_count p.now (Fit pos.now neg.now) ≤ limit → ¬ IsFitSpent a) }
+    ensures enough { IfOk result (λ a. 3 ^ input_count p.now (Fit pos.now neg.now) ≤ limit → ¬ IsSpent a) }
 {
     p.keeps_limits();
     refutations_are_sound();
     let (stated, template) = stated_fit(alloc, true, p, pos, neg)?;
-    match solve(alloc, &stated.formula, stated.base.as_slice(), limit)? {
-        Answer::Sat(assignment) => {
+    match stated.solved(alloc, limit)? {
+        QueryAnswer::Found(assignment) => {
             let trees = template.decode(&assignment)?;
             let term = p.grammar().terms_of(alloc, &trees)?;
-            Ok(FitAnswer::Found(term))
+            Ok(QueryAnswer::Found(term))
         }
-        Answer::Unsat(log) => {
-            let kept = stated.refutation(alloc, &log)?;
-            Ok(FitAnswer::Nothing(kept))
-        }
-        Answer::Spent(log) => Ok(FitAnswer::Spent(log)),
+        QueryAnswer::Refuted(log) => Ok(QueryAnswer::Refuted(log)),
+        QueryAnswer::Spent(log) => Ok(QueryAnswer::Spent(log)),
     }
 }
 

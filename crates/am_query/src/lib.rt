@@ -14,9 +14,9 @@
 //!
 //! ```text
 //! match fit(alloc, &p, &pos, &neg, 100_000)? {
-//!     FitAnswer::Found(t) => .., // a transformer that satisfies the examples
-//!     FitAnswer::Nothing(log) => .., // none does, and the log shows it
-//!     FitAnswer::Spent(log) => .., // 100,000 clauses were learnt
+//!     QueryAnswer::Found(t) => .., // a transformer that satisfies the examples
+//!     QueryAnswer::Refuted(log) => .., // none does, and the log shows it
+//!     QueryAnswer::Spent(log) => .., // 100,000 clauses were learnt
 //! }
 //! ```
 //!
@@ -38,8 +38,8 @@
 //! grammar's tuples of trees. Acceptance is defined in `specs/Acceptance.antt`, as conditions in order. By
 //! `specs/AcceptanceLaws.antt` no outcome is both accepted and at fault, and each has one fault at most. **What an
 //! accepted outcome says is right**: its transformer is best, or no transformer is sound. Beside acceptance this
-//! needs one term for each start and examples with rows of the problem; nothing is assumed of the turns, of the
-//! named transformers, or of the solver. These laws are the clauses of the functions of [`theorems`].
+//! needs examples with rows of the problem; nothing is assumed of the turns, of the named transformers, or of the
+//! solver. These laws are the clauses of the functions of [`theorems`].
 #![tactic(auto)]
 
 mod answers;
@@ -61,7 +61,7 @@ pub mod theorems;
 mod turn;
 mod words;
 
-pub use answers::{FitAnswer, PreciseAnswer, SoundAnswer};
+pub use answers::{Closer, FitAnswer, PreciseAnswer, QueryAnswer, SoundAnswer};
 pub use asked::{Asked, query_of};
 pub use fault::Fault;
 pub use fit_query::fit;

@@ -5,17 +5,17 @@ use crate::turn::Trace;
 use am_chain::Log;
 use am_problem::Transformer;
 
-/// How a synthesis ends.
+/// How a synthesis ends. What it says holds where it is accepted, as `specs/Acceptance.antt` says.
 #[derive(Drop)]
 pub enum Outcome {
-    /// The transformer is best: one log refutes that it isn't sound, and one that there is a closer one.
+    /// That the transformer is best: one log is to refute that it isn't sound, and one that there is a closer one.
     Best {
         term: Transformer,
         trace: Trace,
         sound_log: Log,
         best_log: Log,
     },
-    /// No transformer is sound: the log refutes that one satisfies the positive examples.
+    /// That no transformer is sound: the log is to refute that one satisfies the positive examples.
     Absent {
         trace: Trace,
         log: Log,

@@ -7,7 +7,7 @@ ghost use Rattle.am_gate.specs.Circuit.{HasInputs, HasRoom};
 ghost use Rattle.am_blast.specs.Words.{IsWord, reads};
 ghost use Rattle.am_slot.specs.Template.{selectors_of};
 ghost use Rattle.am_problem.specs.Examples.{all_fields};
-ghost use Rattle.am_query.specs.Answers.{IsPreciseAnswer, IsPreciseSpent};
+ghost use Rattle.am_query.specs.Answers.{IsPreciseAnswer, IsSpent};
 ghost use Rattle.am_query.specs.Formulas.{circuit_of, encoding_of};
 ghost use Rattle.am_query.specs.Queries.{AreCompared, input_count};
 ghost use Rattle.am_query.specs.Transformers.{IsTransformerOf};
@@ -18,7 +18,7 @@ ghost use Rattle.am_query.specs.inside.Stated.{IsStated};
 ghost use Rattle.am_query.specs.inside.Statements.{States};
 ghost use Rattle.am_query.specs.inside.Words.{AreWordsIn};
 
-use crate::answers::PreciseAnswer;
+use crate::answers::{Closer, PreciseAnswer, QueryAnswer};
 use crate::fit_query::first_variables;
 use crate::reading::{row_at, word_at};
 use crate::stated::{Stated, Variables, new_circuit};
@@ -30,7 +30,6 @@ use am_gate::Circuit;
 use am_lit::{Assignment, Lit};
 use am_problem::{Negative, Negatives, Positives, Problem, Transformer};
 use am_slot::Template;
-use am_solve::{Answer, solve};
 use std::alloc::{AllocError, Global};
 
 /// Looks for a transformer that satisfies the examples, and excludes at some inputs a word that the given
@@ -51,22 +50,20 @@ pub fn precise(
     requires most { limit ≤ 2 ^ 30 }
     ensures answer { IfOk result (IsPreciseAnswer p.now t.now pos.now neg.now limit) }
     ensures enough { IfOk result (λ a.
-        3 ^ input_count p.now (Precise t.now pos.now neg.now) ≤ limit → ¬ IsPreciseSpent a) }
+        3 ^ input_count p.now (Precise t.now pos.now neg.now) ≤ limit → ¬ IsSpent a) }
 {
     p.keeps_limits();
     refutations_are_sound();
     let (stated, template, inputs) = stated_precise(alloc, true, p, t, pos, neg)?;
-    match solve(alloc, &stated.formula, stated.base.as_slice(), limit)? {
-        Answer::Sat(a) => {
+    match stated.solved(alloc, limit)? {
+        QueryAnswer::Found(a) => {
             let trees = template.decode(&a)?;
-            let closer = p.grammar().terms_of(alloc, &trees)?;
-            Ok(PreciseAnswer::Better(closer, negative_at(p, &a, &inputs)))
+            let term = p.grammar().terms_of(alloc, &trees)?;
+            let example = negative_at(p, &a, &inputs);
+            Ok(QueryAnswer::Found(Closer { term, example }))
         }
-        Answer::Unsat(log) => {
-            let kept = stated.refutation(alloc, &log)?;
-            Ok(PreciseAnswer::Best(kept))
-        }
-        Answer::Spent(log) => Ok(PreciseAnswer::Spent(log)),
+        QueryAnswer::Refuted(log) => Ok(QueryAnswer::Refuted(log)),
+        QueryAnswer::Spent(log) => Ok(QueryAnswer::Spent(log)),
     }
 }
 

@@ -6,7 +6,7 @@ ghost use Rattle.am_gate.specs.Build.{Follows};
 ghost use Rattle.am_gate.specs.Circuit.{HasInputs, HasRoom, start};
 ghost use Rattle.am_blast.specs.Words.{reads};
 ghost use Rattle.am_problem.specs.Examples.{all_fields};
-ghost use Rattle.am_query.specs.Answers.{IsSoundAnswer, IsSoundSpent};
+ghost use Rattle.am_query.specs.Answers.{IsSoundAnswer, IsSpent};
 ghost use Rattle.am_query.specs.Formulas.{sound};
 ghost use Rattle.am_query.specs.Queries.{input_count};
 ghost use Rattle.am_query.specs.Transformers.{IsTransformerOf};
@@ -17,7 +17,7 @@ ghost use Rattle.am_query.specs.inside.Stated.{IsStated};
 ghost use Rattle.am_query.specs.inside.Statements.{States};
 ghost use Rattle.am_query.specs.inside.Words.{AreWordsIn};
 
-use crate::answers::SoundAnswer;
+use crate::answers::{QueryAnswer, SoundAnswer};
 use crate::reading::row_at;
 use crate::stated::{Stated, Variables, new_circuit};
 use crate::statements::Statements;
@@ -27,7 +27,6 @@ use am_chain::soundness::refutations_are_sound;
 use am_gate::Circuit;
 use am_lit::Assignment;
 use am_problem::{Positive, Problem, Transformer};
-use am_solve::{Answer, solve};
 use std::alloc::{AllocError, Global};
 
 /// Finds out whether a transformer is sound, with at most `limit` clauses derived.
@@ -44,18 +43,15 @@ pub fn sound(
     requires least { 1 ≤ limit }
     requires most { limit ≤ 2 ^ 30 }
     ensures answer { IfOk result (IsSoundAnswer p.now t.now limit) }
-    ensures enough { IfOk result (λ a. 3 ^ input_count p.now (Sound t.now) ≤ limit → ¬ IsSoundSpent a) }
+    ensures enough { IfOk result (λ a. 3 ^ input_count p.now (Sound t.now) ≤ limit → ¬ IsSpent a) }
 {
     p.keeps_limits();
     refutations_are_sound();
     let (stated, inputs) = stated_sound(alloc, true, p, t)?;
-    match solve(alloc, &stated.formula, stated.base.as_slice(), limit)? {
-        Answer::Sat(a) => Ok(SoundAnswer::Fails(positive_at(p, &a, &inputs))),
-        Answer::Unsat(log) => {
-            let kept = stated.refutation(alloc, &log)?;
-            Ok(SoundAnswer::Holds(kept))
-        }
-        Answer::Spent(log) => Ok(SoundAnswer::Spent(log)),
+    match stated.solved(alloc, limit)? {
+        QueryAnswer::Found(a) => Ok(QueryAnswer::Found(positive_at(p, &a, &inputs))),
+        QueryAnswer::Refuted(log) => Ok(QueryAnswer::Refuted(log)),
+        QueryAnswer::Spent(log) => Ok(QueryAnswer::Spent(log)),
     }
 }
 

@@ -8,12 +8,12 @@ use crate::turn::{Trace, Turn};
 use am_problem::{Negatives, Positives};
 use std::alloc::{AllocError, Global};
 
-/// The examples so far.
+/// Examples that a transformer is to satisfy, as they stand after some turns.
 #[derive(PartialEq, Debug, Drop)]
 pub struct State {
-    /// True ones, each of which a transformer failed.
+    /// Those that it is to cover.
     pub positives: Positives,
-    /// Valid ones, each of which a transformer failed.
+    /// Those that it is to exclude.
     pub negatives: Negatives,
 }
 

@@ -6,12 +6,16 @@ ghost use Rattle.am_lit.specs.UnitRow.{Determines};
 ghost use Rattle.am_chain.specs.Replay.{Refutes};
 ghost use Rattle.am_gate.specs.Circuit.{HasInputs, start};
 ghost use Rattle.am_solve.specs.Answers.{ChainsAreShort};
+ghost use Rattle.am_query.specs.Answers.{IsSpent};
+ghost use Rattle.am_query.specs.inside.Solved.{IsSolved};
 
+use crate::answers::QueryAnswer;
 use am_bv::Row;
 use am_chain::chain_laws::trimmed_chains_are_the_logs;
 use am_chain::{Log, trimmed};
 use am_gate::Circuit;
-use am_lit::Formula;
+use am_lit::{Assignment, Formula};
+use am_solve::{Answer, solve};
 use std::alloc::{AllocError, Global};
 
 /// Numbers of variables.
@@ -41,8 +45,31 @@ impl Stated {
         }
     }
 
+    /// Solves the formula, with at most `limit` clauses derived: satisfying truth values, or the chains that refute
+    /// it, or as many chains as the limit.
+    pub fn solved(&self, alloc: Global, limit: u64) -> Result<QueryAnswer<Assignment>, AllocError>
+        requires least { 1 ≤ limit }
+        requires most { limit ≤ 2 ^ 30 }
+        requires few_vars { self.now.formula.vars < 2 ^ 30 }
+        requires few_clauses { length self.now.formula.clauses < 2 ^ 31 }
+        requires rising { IsStrictlyIncreasing self.now.base }
+        requires below { All (λ v. v < self.now.formula.vars) self.now.base }
+        ensures answer { IfOk result (IsSolved self.now.formula limit) }
+        ensures enough { IfOk result (λ a. Determines self.now.formula.clauses self.now.formula.vars self.now.base
+            → 3 ^ length self.now.base ≤ limit → ¬ IsSpent a) }
+    {
+        match solve(alloc, &self.formula, self.base.as_slice(), limit)? {
+            Answer::Sat(assignment) => Ok(QueryAnswer::Found(assignment)),
+            Answer::Unsat(log) => {
+                let kept = self.refutation(alloc, &log)?;
+                Ok(QueryAnswer::Refuted(kept))
+            }
+            Answer::Spent(log) => Ok(QueryAnswer::Spent(log)),
+        }
+    }
+
     /// Of a log that refutes the formula, the chains that its last one needs.
-    pub fn refutation(&self, alloc: Global, log: &Log) -> Result<Log, AllocError>
+    fn refutation(&self, alloc: Global, log: &Log) -> Result<Log, AllocError>
         requires refutes { Refutes self.now.formula.clauses log.now }
         requires short { ChainsAreShort self.now.formula.vars log.now }
         requires few_clauses { length self.now.formula.clauses < 2 ^ 31 }

@@ -1,13 +1,15 @@
 //! Laws of the queries' formulas, of turns and of acceptance. Each function does nothing: its contract is a law,
 //! which is proved, and a call brings it into the caller's proof.
 
-ghost use Rattle.am_query.specs.AcceptanceLaws.{AcceptedIsRight, VerdictsAreUnique, VerdictsExist};
+ghost use Rattle.am_query.specs.AcceptanceLaws.{AbsentIsAccepted, AcceptedIsRight, BestIsAccepted};
+ghost use Rattle.am_query.specs.AcceptanceLaws.{LogsAreTestedInTurn, VerdictsAreUnique, VerdictsExist};
+ghost use Rattle.am_query.specs.Queries.{FormulasKeepTheLoad};
 ghost use Rattle.am_query.specs.QueryLaws.{CloserOnesAreChosen, CloserOnesAreReached};
 ghost use Rattle.am_query.specs.QueryLaws.{FailedExamplesAreChosen, FailedExamplesAreReached};
 ghost use Rattle.am_query.specs.QueryLaws.{FitsAreChosen, FitsAreReached, UnsatisfiedFitHasNone};
 ghost use Rattle.am_query.specs.QueryLaws.{UnsatisfiedPrecisionHasNoneCloser, UnsatisfiedSoundnessIsSound};
-ghost use Rattle.am_query.specs.TurnLaws.{KeptAreDetermined, KeptGrow, NoneIsKeptAtFirst};
-ghost use Rattle.am_query.specs.TurnLaws.{TracesShow, TurnsAreFew};
+ghost use Rattle.am_query.specs.TurnLaws.{KeptAreDetermined, KeptAreSatisfied, KeptGrow, NoneIsKeptAtFirst};
+ghost use Rattle.am_query.specs.TurnLaws.{NothingIsKept, PlacesGrow, TracesGrow, TracesShow, TurnsAreFew};
 
 /// Truth values that satisfy the formula of a fit choose a transformer that satisfies the examples, and each such
 /// transformer is chosen by some. Where none satisfy the formula, no transformer satisfies the examples.
@@ -34,6 +36,11 @@ pub fn closer_ones_are_chosen()
     ensures none { UnsatisfiedPrecisionHasNoneCloser }
 {}
 
+/// Beside the true variable and its inputs, the circuit of a query has at most as many gates as the problem's load.
+pub fn formulas_keep_the_load()
+    ensures { FormulasKeepTheLoad }
+{}
+
 /// Before the first example no place is kept. The next place is kept exactly where some transformer satisfies the
 /// positive examples, the kept ones and its own. The kept places are determined.
 pub fn kept_examples_are_determined()
@@ -42,9 +49,18 @@ pub fn kept_examples_are_determined()
     ensures determined { KeptAreDetermined }
 {}
 
-/// The examples after a valid trace are true and valid, and no more than the turns.
+/// Some transformer satisfies the positive examples and the kept ones, where some satisfies the positive ones at all;
+/// else nothing is kept. One place more has the example at it.
+pub fn kept_examples_are_satisfied()
+    ensures satisfied { KeptAreSatisfied }
+    ensures nothing { NothingIsKept }
+    ensures further { PlacesGrow }
+{}
+
+/// The examples after a valid trace are true and valid, and no more than the turns. It goes on by a turn.
 pub fn traces_show_examples()
-    ensures { TracesShow }
+    ensures show { TracesShow }
+    ensures grow { TracesGrow }
 {}
 
 /// A valid trace has at most K * (K + 1) turns, where K is the number of the grammar's tuples of trees.
@@ -57,6 +73,17 @@ pub fn turns_are_few()
 pub fn outcomes_have_one_verdict()
     ensures unique { VerdictsAreUnique }
     ensures exists { VerdictsExist }
+{}
+
+/// A log fails with its first fault, and, where it has none, where it doesn't end with the empty clause.
+pub fn logs_are_tested_in_turn()
+    ensures { LogsAreTestedInTurn }
+{}
+
+/// A best transformer, or the fact that none is sound, is accepted with a valid trace and logs that refute.
+pub fn refuted_outcomes_are_accepted()
+    ensures best { BestIsAccepted }
+    ensures absent { AbsentIsAccepted }
 {}
 
 /// What an accepted outcome of a problem says is right: its transformer is best, or no transformer is sound.

@@ -2,20 +2,19 @@
 use Rattle.std.proofs.Common.{ℕ, List, [], ◌∷◌, length, arith}
 use Rattle.std.specs.Prelude.{All, IsTrue}
 use Rattle.std.specs.List.{AllByRecursion}
-use Rattle.std.proofs.lemmas.Bool.{leb-true}
 use Rattle.std.proofs.lemmas.List.Elements.{All-from_recursion, recursion_from_All}
 use Rattle.am_tree.specs.declared.grammar.Production.{Production}
 use Rattle.am_tree.specs.declared.grammar.Production.TheVariants.{Leaf, Node}
 use Rattle.am_tree.specs.Grammars.{is_production}
 use Rattle.am_tree.specs.Trees.{Rules}
-use Rattle.am_tree.proofs.Laws.{short-production}
+use Rattle.am_tree.proofs.Laws.{leaf-small, short-production}
 use Rattle.am_slot.specs.Encoding.{Encoding, IsEncoding, is_leaf_over, AreOver}
 use Rattle.am_slot.specs.inside.Fits.{IsSmall, IsFit, AreFit}
 use Rattle.am_slot.proofs.Premises.{suits_of}
 use Rattle.am_slot.proofs.Tables.{whole}
 
 small : (n : ℕ) (p : Production) → IsTrue (is_production n p) → IsSmall p
-small n (Leaf t) h = let few = leb-true _ _ h in omega (arith, few)
+small n (Leaf t) h = let few = leaf-small n t h in omega (arith, few)
 small n (Node op names) h = tt
 
 module _ (w count n : ℕ) where

@@ -14,6 +14,10 @@
 //! literals, clauses of the first unique implication point, activities, kept phases, restarts. Where
 //! 3^B is at most the limit it decides the base first, and learns clauses of decided literals alone.
 //!
+//! A formula that it doesn't answer with few conflicts is tried by the quick search of am_quick, of
+//! which nothing is trusted: its assignment is evaluated here, and its log replayed by am_chain. Where
+//! it answers with neither, the exact search goes on.
+//!
 //! ```text
 //! match solve(alloc, &formula, &base, 100_000)? {
 //!     Answer::Sat(assignment) => assert!(assignment.holds(l)),
@@ -41,6 +45,7 @@ mod conflict;
 mod descend;
 mod implied;
 mod marks;
+mod quick;
 mod search;
 mod solving;
 

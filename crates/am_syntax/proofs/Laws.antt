@@ -2,13 +2,13 @@
 
 -- what was taken from the front: nothing, one behind another, its words, its length, in two halves
 pub use Rattle.am_syntax.proofs.Takes.{Takes-none, Takes-then, Takes-words, Takes-length, Takes-halves, Takes-nothing}
--- tokens that were reached: none taken, one after another, behind a value; a judge and a term go forward alone
-pub use Rattle.am_syntax.proofs.Advancing.{reached_here, reached_then, reached_ok, judged_advances, term_advances}
+-- tokens that were reached: none taken, behind a value; a judge goes forward alone
+pub use Rattle.am_syntax.proofs.Advancing.{reached_here, reached_ok, judged_advances}
 -- readers of readers go forward alone: one behind another, seen otherwise, one of two, so many items, as many as come
 pub use Rattle.am_syntax.proofs.Advancing.{bind_reached, bind_advances, seen_advances, if_reached, times_advances}
 pub use Rattle.am_syntax.proofs.Advancing.{repeat_advances}
--- a failure in a part is one of the whole: in a part that was reached, in the first, in one behind a value
-pub use Rattle.am_syntax.proofs.Loops.{fails_on, fails_first, fails_behind, makes_err}
+-- what a call answers that failed, or that reads ahead of a cursor
+pub use Rattle.am_syntax.proofs.Loops.{makes_err, makes_refused, makes_ahead}
 -- what a loop does that reads so many items, or items as long as one comes: one more, a failure, the end
 pub use Rattle.am_syntax.proofs.Loops.{times_more, times_fails, times_done}
 pub use Rattle.am_syntax.proofs.Repeats.{so_far_more, so_far_fails, so_far_done}

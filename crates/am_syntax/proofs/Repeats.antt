@@ -3,11 +3,9 @@ use Rattle.std.proofs.Common.{◌≡◌, ℕ, zero, suc, ◌<◌, Bool, true, fa
 use Rattle.std.proofs.Common.{refl, sym, ap, ◌∙◌, arith, inl, inr}
 use Rattle.std.proofs.lemmas.Bool.{cases_Bool}
 use Rattle.am_text.specs.Tokens.{Left, words}
-use Rattle.am_syntax.specs.declared.refusal.Failure.{Failure}
 use Rattle.am_syntax.specs.declared.refusal.Cause.{Cause}
-use Rattle.am_syntax.specs.Readers.{◌>>=◌, Fails, Reached, Read, Reader, Words, onward}
+use Rattle.am_syntax.specs.Readers.{◌>>=◌, Read, Reader, Words, onward}
 use Rattle.am_syntax.specs.Pieces.{MovesOn, repeat_from, repeat_in}
-use Rattle.am_syntax.proofs.Loops.{fails_on}
 
 module _ {X : Type 0} (goes : Words → Bool) (read : List X → Reader X) (moves : MovesOn read) where
   abbrev step : ℕ → List X → Reader (List X)
@@ -77,11 +75,10 @@ module _ {X : Type 0} (goes : Words → Bool) (read : List X → Reader X) (move
       repeat_from goes read seen s ≡ whole → repeat_from goes read (seen ++ x ∷ []) t ≡ whole
   so_far_more seen s x t whole h e so_far = sym (repeat_more seen s x t h e) ∙ so_far
 
-  pub so_far_fails : (e : Failure) (seen : List X) (old s left : Left) (whole : Read (List X)) → goes (words s) ≡ true →
-      Reached old s → Fails e s left (read seen s) →
-      repeat_from goes read seen s ≡ whole → Fails e old left whole
-  so_far_fails e seen old s left whole h to f so_far =
-      fails_on e old s left (read seen s) whole to (λ stop is. sym so_far ∙ repeat_fails seen s stop h is) f
+  pub so_far_fails : (seen : List X) (s : Left) (stop : Cause × Left) (whole : Read (List X)) → goes (words s) ≡ true →
+      read seen s ≡ Err stop →
+      repeat_from goes read seen s ≡ whole → whole ≡ Err stop
+  so_far_fails seen s stop whole h is so_far = sym so_far ∙ repeat_fails seen s stop h is
 
   pub so_far_done : (seen : List X) (s : Left) (whole : Read (List X)) → goes (words s) ≡ false →
       repeat_from goes read seen s ≡ whole → whole ≡ Ok (seen, s)

@@ -84,7 +84,7 @@ closed_whole : {A X : Type 0} (view : A → X) (old left : Left) (read : Result 
 closed_whole {X = X} view old left (Ok value) reader made =
     subst (λ (q : Read X). Answers view (closed left (Ok value)) (whole q)) (sym made)
     (closed_ended view value left.tokens)
-closed_whole view old left (Err (failure.Refused cause)) reader made = ap whole made
+closed_whole view old left (Err (failure.Refused cause)) reader made = ap whole (made cause refl)
 closed_whole view old left (Err failure.NoMemory) reader made = tt
 
 -- a text of allowed bytes, read to its end

@@ -66,15 +66,17 @@ abbrev pub Gives : {X Y : Type 0} → (X → Y) → Result X Cause → Left → 
 Gives view (Ok x) old new reader = reader old ≡ Ok (view x, new)
 Gives view (Err cause) old new reader = reader old ≡ Err (cause, new)
 
--- the reader's refusal, at the token that it refuses, or want of memory, at some token that was reached
-abbrev pub Fails : {Y : Type 0} → Failure → Left → Left → Read Y → Type 0
-Fails (Refused cause) old new read = read ≡ Err (cause, new)
-Fails NoMemory old new read = Reached old new
-
--- the same of a function that takes memory
+-- the same of a function that takes memory; where it found none, nothing is said of the reader
 abbrev pub Makes : {X Y : Type 0} → (X → Y) → Result X Failure → Left → Left → Reader Y → Type 0
 Makes view (Ok x) old new reader = reader old ≡ Ok (view x, new)
-Makes view (Err e) old new reader = Fails e old new (reader old)
+Makes view (Err e) old new reader = (cause : Cause) → e ≡ Refused cause → reader old ≡ Err (cause, new)
+
+-- where a cursor stands behind a call that read ahead of it: where reading stopped, or still in its place where memory
+-- was wanting
+abbrev pub follows : {X : Type 0} → Left → Left → Result X Failure → Left
+follows old ahead (Ok x) = ahead
+follows old ahead (Err (Refused cause)) = ahead
+follows old ahead (Err NoMemory) = old
 
 -- a judge's function
 abbrev pub Says : {X Y : Type 0} → (X → Y) → Result X Cause → Result Y Cause → Type 0

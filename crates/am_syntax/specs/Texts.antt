@@ -10,7 +10,7 @@ use Rattle.am_syntax.specs.declared.refusal.Refusal.TheVariants.{BadByte, Syntax
 use Rattle.am_syntax.specs.declared.refusal.ReadError.{ReadError}
 use Rattle.am_syntax.specs.declared.refusal.ReadError.TheVariants.{Refused, NoMemory}
 use Rattle.am_syntax.specs.Pieces.{Piece}
-use Rattle.am_syntax.specs.Readers.{Reached, Read, Reader}
+use Rattle.am_syntax.specs.Readers.{Read, Reader}
 
 abbrev pub refusal_at : Cause → ℕ → Refusal
 refusal_at cause.Syntax place = Syntax place
@@ -36,11 +36,11 @@ abbrev pub GivesAt : {X Y : Type 0} → (X → Y) → Result X Refusal → Left 
 GivesAt view (Ok x) old new reader = reader old ≡ Ok (view x, new)
 GivesAt view (Err r) old new reader = IsRefusedAt r new (reader old)
 
--- the same of a function that takes memory: without any, the cursor stands at some token that was reached
+-- the same of a function that takes memory: without any, the cursor stays
 abbrev pub MakesAt : {X Y : Type 0} → (X → Y) → Result X ReadError → Left → Left → Reader Y → Type 0
 MakesAt view (Ok x) old new reader = reader old ≡ Ok (view x, new)
 MakesAt view (Err (Refused r)) old new reader = IsRefusedAt r new (reader old)
-MakesAt view (Err NoMemory) old new reader = Reached old new
+MakesAt view (Err NoMemory) old new reader = new ≡ old
 
 -- ---- whole texts
 

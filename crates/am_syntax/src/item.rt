@@ -1,10 +1,12 @@
 //! Items one after the other, each of which sees the items before it.
 
-ghost use Rattle.std.specs.Prelude.{◌≡◌, [], map};
+ghost use Rattle.std.specs.Prelude.{◌≡◌, [], Err, map};
 ghost use Rattle.am_text.specs.Tokens.{words};
+ghost use Rattle.am_syntax.specs.declared.refusal.Failure.TheVariants.{NoMemory};
 ghost use Rattle.am_syntax.specs.Pieces.{MovesOn, repeat_from, times_from};
-ghost use Rattle.am_syntax.specs.Readers.{Advances, Makes};
+ghost use Rattle.am_syntax.specs.Readers.{Makes};
 
+use crate::ahead::follow;
 use crate::refusal::Failure;
 use am_bv::Row;
 use am_text::Cursor;
@@ -34,7 +36,7 @@ pub trait Item<'a> {
     /// # Errors
     ///
     /// `Refused`: the first token that no item has here. The cursor stands at it. `NoMemory`: the
-    /// cursor stands at some token that the call had reached.
+    /// cursor may stand anywhere, and its caller gives it up.
     fn read(
         &self,
         alloc: Global,
@@ -58,25 +60,55 @@ pub trait Listed<'a>: Item<'a> {
         ensures { result ≡ goes (words text.now) };
 }
 
+fn read_times_ahead<'a, I: Item<'a>>(
+    alloc: Global,
+    ahead: &mut Cursor<'a>,
+    item: &I,
+    count: u32,
+) -> Result<Row<I::Value>, Failure>
+    requires { I.can item.now }
+    ensures { Makes (map I.view) result ahead.old ahead.new (times_from (I.reads item.now) count []) }
+{
+    let mut found = Row::new(alloc);
+    'items: for _ in 0..count {
+        found.push(item.read(alloc, ahead, found.as_slice())?)?;
+    }
+    Ok(found)
+}
+
 /// Reads so many items.
 ///
 /// # Errors
 ///
 /// `Refused`: an item's refusal. The cursor stands at the refused token. `NoMemory`: the cursor
-/// stands at some token that the call had reached.
+/// stays.
 pub fn read_times<'a, I: Item<'a>>(
     alloc: Global,
     text: &mut Cursor<'a>,
     item: &I,
     count: u32,
 ) -> Result<Row<I::Value>, Failure>
+    requires { I.can item.now }
+    ensures read { Makes (map I.view) result text.old text.new (times_from (I.reads item.now) count []) }
+    ensures stays { result ≡ Err NoMemory → text.new ≡ text.old }
+{
+    let mut ahead = text.fork();
+    let read = read_times_ahead(alloc, &mut ahead, item, count);
+    follow(text, ahead, read)
+}
+
+fn read_list_ahead<'a, I: Listed<'a>>(
+    alloc: Global,
+    ahead: &mut Cursor<'a>,
+    item: &I,
+) -> Result<Row<I::Value>, Failure>
     requires can { I.can item.now }
-    requires advances { (seen : _) → Advances (I.reads item.now seen) }
-    ensures { Makes (map I.view) result text.old text.new (times_from (I.reads item.now) count []) }
+    requires moves { MovesOn (I.reads item.now) }
+    ensures { Makes (map I.view) result ahead.old ahead.new (repeat_from I.goes (I.reads item.now) []) }
 {
     let mut found = Row::new(alloc);
-    'items: for _ in 0..count {
-        found.push(item.read(alloc, text, found.as_slice())?)?;
+    'items: while item.comes(ahead) {
+        found.push(item.read(alloc, ahead, found.as_slice())?)?;
     }
     Ok(found)
 }
@@ -86,20 +118,18 @@ pub fn read_times<'a, I: Item<'a>>(
 /// # Errors
 ///
 /// `Refused`: an item's refusal. The cursor stands at the refused token. `NoMemory`: the cursor
-/// stands at some token that the call had reached.
+/// stays.
 pub fn read_list<'a, I: Listed<'a>>(
     alloc: Global,
     text: &mut Cursor<'a>,
     item: &I,
 ) -> Result<Row<I::Value>, Failure>
     requires can { I.can item.now }
-    requires advances { (seen : _) → Advances (I.reads item.now seen) }
     requires moves { MovesOn (I.reads item.now) }
-    ensures { Makes (map I.view) result text.old text.new (repeat_from I.goes (I.reads item.now) []) }
+    ensures read { Makes (map I.view) result text.old text.new (repeat_from I.goes (I.reads item.now) []) }
+    ensures stays { result ≡ Err NoMemory → text.new ≡ text.old }
 {
-    let mut found = Row::new(alloc);
-    'items: while item.comes(text) {
-        found.push(item.read(alloc, text, found.as_slice())?)?;
-    }
-    Ok(found)
+    let mut ahead = text.fork();
+    let read = read_list_ahead(alloc, &mut ahead, item);
+    follow(text, ahead, read)
 }

@@ -31,16 +31,19 @@
 //! so and is good; what is good and spelled so is read, where what follows may follow; and the tokens
 //! that are left behind a value, or from a refused token on, are the rest of those that were left.
 //! [`take`], [`read_times`] and [`read_list`] answer exactly what the pieces read, for every judge
-//! and item. A refusal leaves the cursor at the refused token, want of memory at some token that the
-//! call had reached. [`read_number`], [`read_name`] and [`read_term`] answer exactly the number, name
-//! or term that is spelled, or the first refusal with the place of its token; a text of a term has a
-//! value or a first refusal, and not both. [`print_term`] appends the term's canonical text, and
+//! and item. A refusal leaves the cursor at the refused token, and want of memory leaves it in its
+//! place; only an [`Item`] that finds no memory may leave its cursor anywhere, since [`read_times`] and
+//! [`read_list`] give that one up. [`follow`] keeps this for a format's own calls: what was read ahead
+//! moves the cursor, unless memory was wanting. [`read_number`], [`read_name`] and [`read_term`] answer
+//! exactly the number, name or term that is spelled, or the first refusal with the place of its token; a
+//! text of a term has a value or a first refusal, and not both. [`print_term`] appends the term's canonical text, and
 //! after want of memory the writer holds its old text and a part of the new; a printed term has the
 //! term's words, and reads back. [`print_line`] and [`print_word`] append a line and a word in the same
 //! way. The depth of the calls of [`read_term`] is at most the nesting allowed, which is tested before
 //! going down.
 #![tactic(auto)]
 
+mod ahead;
 mod item;
 mod judge;
 mod limits;
@@ -55,6 +58,7 @@ mod text;
 pub mod theorems;
 mod words;
 
+pub use ahead::follow;
 pub use item::{Item, Listed, read_list, read_times};
 pub use judge::{Judge, take};
 pub use limits::{Letter, TermLimits};

@@ -47,7 +47,7 @@ pub fn read_name<'a>(c: &mut Cursor<'a>) -> Result<&'a [u8], Refusal>
 /// # Errors
 ///
 /// `Refused`: the first refusal. The cursor stands at the refused token. `NoMemory`: the cursor
-/// stands at some token that the call had reached.
+/// stays.
 pub fn read_term(
     alloc: Global,
     c: &mut Cursor<'_>,

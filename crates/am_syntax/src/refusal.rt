@@ -21,8 +21,7 @@ pub enum Cause {
     Twice,
 }
 
-/// Why nothing was read. After a refusal the cursor stands at the refused token, after want of memory
-/// at some token that the call had reached.
+/// Why nothing was read. After a refusal the cursor stands at the refused token.
 #[derive(Clone, Copy, PartialEq, Eq, Debug)]
 pub enum Failure {
     /// The next token is refused.

@@ -4,12 +4,14 @@ ghost use Rattle.std.specs.Prelude.{◌≡◌, ◌+◌, ◌<◌, IfOk, OnOk, Ok,
 ghost use Rattle.am_bv.specs.declared.term.Term.TheVariants.{Field};
 ghost use Rattle.am_bv.specs.Terms.{nodes};
 ghost use Rattle.am_syntax.specs.declared.refusal.Cause.TheVariants.{Name};
+ghost use Rattle.am_syntax.specs.declared.refusal.Failure.TheVariants.{NoMemory};
 ghost use Rattle.am_syntax.specs.Numerals.{number_of};
 ghost use Rattle.am_syntax.specs.Readers.{Gives, Makes, judged};
 ghost use Rattle.am_syntax.specs.Spelling.{scope_of};
 ghost use Rattle.am_syntax.specs.Terms.{begins_capital, constant_judge, head_judge, leaf_judge};
 ghost use Rattle.am_syntax.specs.Terms.{term, term_at, variable_judge, within};
 
+use crate::ahead::follow;
 use crate::judge::{Judge, take};
 use crate::limits::TermLimits;
 use crate::names::take_operator;
@@ -206,15 +208,26 @@ fn read_node(
 /// # Errors
 ///
 /// `Refused`: the first refusal. The cursor stands at the refused token. `NoMemory`: the cursor
-/// stands at some token that the call had reached.
+/// stays.
 pub fn take_term(
     alloc: Global,
     text: &mut Cursor<'_>,
     w: Width,
     limits: &TermLimits,
 ) -> Result<Term, Failure>
-    ensures { Makes (λ t. t) result text.old text.new (term w limits.now).read }
+    ensures read { Makes (λ t. t) result text.old text.new (term w limits.now).read }
+    ensures stays { result ≡ Err NoMemory → text.new ≡ text.old }
 {
+    let mut ahead = text.fork();
     let mut room = limits.nodes;
-    read_node(alloc, text, w, limits, false, limits.nesting, &mut room)
+    let read = read_node(
+        alloc,
+        &mut ahead,
+        w,
+        limits,
+        false,
+        limits.nesting,
+        &mut room,
+    );
+    follow(text, ahead, read)
 }

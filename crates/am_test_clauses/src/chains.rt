@@ -172,58 +172,6 @@ fn clauses_are_resolved_by_themselves(rt: HostRuntime) -> Result<(), Fail> {
 }
 
 #[test]
-fn a_resolvent_may_hold_a_variable_in_both_signs(rt: HostRuntime) -> Result<(), Fail> {
-    let formula = four_clauses(rt.alloc())?;
-    let mut checker = Checker::new(rt.alloc(), &formula);
-    add(rt.alloc(), &mut checker, 0, [(0, 3)].as_slice())?;
-    assert_eq!(rt; checker.clause(4), [lit(2), lit(3)].as_slice());
-    let answer = add(rt.alloc(), &mut checker, 4, [(1, 2)].as_slice());
-    assert_eq!(rt; answer, fault(1, Why::NoPivot));
-    Ok(())
-}
-
-#[test]
-fn an_empty_formula_has_no_chains(rt: HostRuntime) -> Result<(), Fail> {
-    let formula = Formula::new(Clauses::new(rt.alloc()), 0).ok_or("no formula")?;
-    let mut checker = Checker::new(rt.alloc(), &formula);
-    let answer = add(rt.alloc(), &mut checker, 0, [].as_slice());
-    assert_eq!(rt; answer, fault(0, Why::NoClause));
-    assert!(rt; !checker.refuted());
-    Ok(())
-}
-
-#[test]
-fn the_empty_clause_is_named_before_a_formula_is_refuted(rt: HostRuntime) -> Result<(), Fail> {
-    let mut clauses = Clauses::new(rt.alloc());
-    let literal = [lit(0)];
-    let literals = literal.as_slice();
-    clauses.push(&literals[1..])?;
-    let formula = Formula::new(clauses, 0).ok_or("no formula")?;
-    let mut checker = Checker::new(rt.alloc(), &formula);
-    assert!(rt; !checker.refuted());
-    add(rt.alloc(), &mut checker, 0, [].as_slice())?;
-    assert!(rt; checker.refuted());
-    Ok(())
-}
-
-#[test]
-fn a_log_lists_chains(rt: HostRuntime) -> Result<(), Fail> {
-    let mut log = Log::new(rt.alloc());
-    log.push(chain_of(rt.alloc(), 7, [(1, 2)].as_slice())?)?;
-    assert_eq!(rt; log.len(), 1);
-    let chain = log.get(0);
-    assert_eq!(rt; (chain.first, chain.steps.len()), (7, 1));
-    assert_eq!(rt;
-        *chain.steps.get(0),
-        Step {
-            variable: 1,
-            clause: 2
-        }
-    );
-    Ok(())
-}
-
-#[test]
 fn a_log_refutes_where_its_last_clause_is_empty(rt: HostRuntime) -> Result<(), Fail> {
     let formula = four_clauses(rt.alloc())?;
     for (rows, expected) in [

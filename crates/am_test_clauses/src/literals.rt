@@ -1,8 +1,8 @@
-//! Literals, clauses, formulas and assignments by example.
+//! Formulas and stores of clauses by example.
 
 ghost use Rattle.std.specs.Prelude.{◌≡◌};
 
-use am_lit::{Assignment, Clauses, Formula, Lit, Values};
+use am_lit::{Clauses, Formula, Lit};
 use std::alloc::Global;
 use std::test::Fail;
 
@@ -32,13 +32,6 @@ fn a_formula_has_normal_clauses_over_its_variables(rt: HostRuntime) -> Result<()
 }
 
 #[test]
-fn a_formula_may_be_empty(rt: HostRuntime) -> Result<(), Fail> {
-    let formula = Formula::new(Clauses::new(rt.alloc()), 0).ok_or("no formula")?;
-    assert_eq!(rt; formula.clauses.len(), 0);
-    Ok(())
-}
-
-#[test]
 fn a_store_keeps_its_first_clauses(rt: HostRuntime) -> Result<(), Fail> {
     let row = [lit(2), lit(4)];
     let literals = row.as_slice();
@@ -56,30 +49,5 @@ fn a_store_keeps_its_first_clauses(rt: HostRuntime) -> Result<(), Fail> {
     assert_eq!(rt; clauses.clause(1), [lit(5)].as_slice());
     clauses.cut(0);
     assert_eq!(rt; clauses.len(), 0);
-    Ok(())
-}
-
-#[test]
-fn literals_have_their_variable_and_sign(rt: HostRuntime) {
-    let l = Lit::new(3, true);
-    assert_eq!(rt; (l.code(), l.variable(), l.negated()), (7, 3, true));
-    assert_eq!(rt; l.opposite(), lit(6));
-    assert_eq!(rt; l.opposite().opposite(), l);
-}
-
-#[test]
-fn an_assignment_holds_literals(rt: HostRuntime) -> Result<(), Fail> {
-    let mut values = Values::new(rt.alloc());
-    values.push(true)?;
-    values.push(false)?;
-    assert_eq!(rt;
-        (values.len(), *values.get(0), *values.get(1)),
-        (2, true, false)
-    );
-    let assignment = Assignment { values };
-    assert!(rt; assignment.holds(lit(0)));
-    assert!(rt; !assignment.holds(lit(1)));
-    assert!(rt; !assignment.holds(lit(2)));
-    assert!(rt; assignment.holds(lit(3)));
     Ok(())
 }

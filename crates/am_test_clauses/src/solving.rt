@@ -71,18 +71,18 @@ fn satisfies(assignment: &Assignment, formula: &Formula) -> bool {
     true
 }
 
-/// Whether a checker takes each chain of a log, and is refuted at its end.
-fn is_refuted(alloc: Global, formula: &Formula, log: &Log) -> Result<bool, Fail>
+/// Whether a checker is refuted after all chains of a log, or None where it doesn't take one of them.
+fn replayed(alloc: Global, formula: &Formula, log: &Log) -> Result<Option<bool>, Fail>
     requires { length formula.now.clauses + length log.now < 2 ^ 32 - 1 }
 {
     let mut checker = Checker::new(alloc, formula);
     for i in 0..log.len() {
         let chain = log.get(i);
         if chain.steps.len() > 1_000_000 || checker.add(chain).is_err() {
-            return Ok(false);
+            return Ok(None);
         }
     }
-    Ok(checker.refuted())
+    Ok(Some(checker.refuted()))
 }
 
 /// The variables below a number.
@@ -97,8 +97,8 @@ fn first_variables(alloc: Global, count: u32) -> Result<Vec<u32>, AllocError>
     Ok(variables)
 }
 
-/// What the solver answers, with the first variables for a base. Its assignment is evaluated, and its
-/// refutation replayed.
+/// What the solver answers, with the first variables for a base. Its assignment is evaluated, and its log
+/// replayed.
 fn judge(alloc: Global, formula: &Formula, count: u32, limit: u64) -> Result<Verdict, Fail> {
     if formula.vars >= 1 << 30 || formula.clauses.len() >= 1 << 31 || formula.vars < count {
         return Err("too large".into());
@@ -112,12 +112,17 @@ fn judge(alloc: Global, formula: &Formula, count: u32, limit: u64) -> Result<Ver
             Ok(Verdict::Sat)
         }
         Answer::Unsat(log) => {
-            let _refutes = Some(is_refuted(alloc, formula, &log)?)
-                .filter(|b| *b)
-                .ok_or("it doesn't refute")?;
+            if replayed(alloc, formula, &log)? != Some(true) {
+                return Err("it doesn't refute".into());
+            }
             Ok(Verdict::Unsat(log.len()))
         }
-        Answer::Spent(log) => Ok(Verdict::Spent(log.len())),
+        Answer::Spent(log) => {
+            if replayed(alloc, formula, &log)? != Some(false) {
+                return Err("a chain isn't valid".into());
+            }
+            Ok(Verdict::Spent(log.len()))
+        }
     }
 }
 
@@ -254,9 +259,9 @@ fn an_empty_clause_and_no_clause(rt: HostRuntime) -> Result<(), Fail> {
 #[test]
 fn pigeons_have_too_few_holes(rt: HostRuntime) -> Result<(), Fail> {
     let alloc = rt.alloc();
-    for holes in 4..7u32 {
+    for holes in 4..6u32 {
         let formula = pigeons(alloc, holes)?;
-        let Verdict::Unsat(chains) = judge(alloc, &formula, 20, 100_000)? else {
+        let Verdict::Unsat(chains) = judge(alloc, &formula, 20, 5_000)? else {
             return Err("it isn't refuted".into());
         };
         let exact = chains as u64;
@@ -267,6 +272,17 @@ fn pigeons_have_too_few_holes(rt: HostRuntime) -> Result<(), Fail> {
             Verdict::Spent(fewer as usize)
         );
     }
+    Ok(())
+}
+
+#[test]
+fn what_takes_long_is_refuted_quickly(rt: HostRuntime) -> Result<(), Fail> {
+    let alloc = rt.alloc();
+    let is_unsat = matches!(
+        judge(alloc, &pigeons(alloc, 7)?, 20, 100_000)?,
+        Verdict::Unsat(_)
+    );
+    assert!(rt; is_unsat);
     Ok(())
 }
 

@@ -1,19 +1,13 @@
-//! Tests of the queries and of all that stands on them, but for the program, with values of an independent reference.
+//! Tests of the queries and of what stands on them, but for the program, with values of an independent reference.
 //!
 //! They stand apart from the crates that they test, since a crate with tests is proved twice, once with them and once
 //! without. They use public calls alone.
 #![tactic(auto)]
 
 #[cfg(test)]
-mod checking;
-#[cfg(test)]
-mod flows;
-#[cfg(test)]
-mod keeping;
+mod asked;
 #[cfg(test)]
 mod limits;
-#[cfg(test)]
-mod listing;
 #[cfg(test)]
 mod printing;
 #[cfg(test)]
@@ -21,10 +15,10 @@ mod queries;
 #[cfg(test)]
 mod query_cases;
 #[cfg(test)]
-mod reading;
-#[cfg(test)]
 mod small_problems;
 #[cfg(test)]
-mod synthesis;
+mod solved;
 #[cfg(test)]
 mod turns;
+#[cfg(test)]
+mod worked;

@@ -1,6 +1,7 @@
-//! Canonical texts of certificates, as an independent reference prints them.
+//! Canonical texts of certificates, as an independent reference prints them, and the texts of errors.
 
-use am_cert::{MOST_BYTES, print_certificate, read_certificate};
+use am_cert::{CheckFail, MOST_BYTES, print_certificate, read_certificate};
+use am_query::Fault;
 use am_syntax::{ReadError, Refusal};
 use am_text::Writer;
 use std::alloc::Global;
@@ -9,25 +10,6 @@ use std::test::Fail;
 macro_rules! lines {
     ($($line:literal)*) => { concat!($($line, "\n"),*) };
 }
-
-/// No transformer derives.
-static NOTHING_DERIVED: &str = lines! {
-    "certificate 1"
-    "amurth 1"
-    "width 2"
-    "operation 1 x0"
-    "domain parity"
-    "start S"
-    "depth 1"
-    "turns 0"
-    "conflicts 1"
-    "rule S (not S)"
-    "end"
-    "answer none"
-    "log fit"
-    "chain 1"
-    "end"
-};
 
 /// Both kinds of turns, a query with an example, and numbers up to the largest.
 static SPENT: &str = lines! {
@@ -118,7 +100,6 @@ fn printed(alloc: Global, text: &str) -> Result<Vec<u8>, ReadError> {
 #[test]
 fn certificates_are_printed_canonically(rt: HostRuntime) -> Result<(), Fail> {
     for (text, canonical) in [
-        (NOTHING_DERIVED, NOTHING_DERIVED),
         (SPENT, SPENT),
         (CLAIMED, CLAIMED),
         (UNFINISHED, UNFINISHED),
@@ -127,5 +108,17 @@ fn certificates_are_printed_canonically(rt: HostRuntime) -> Result<(), Fail> {
         let printed = printed(rt.alloc(), text)?;
         assert_eq!(rt; printed.as_slice(), canonical.as_bytes());
     }
+    Ok(())
+}
+
+#[test]
+fn errors_have_texts(rt: HostRuntime) -> Result<(), Fail> {
+    let alloc = rt.alloc();
+    let rejected = CheckFail::Rejected(Fault::Unfinished);
+    assert_eq!(rt; format!(in alloc; "{rejected}")?.as_str(), "rejected");
+    assert_eq!(rt;
+        format!(in alloc; "{}", CheckFail::NoMemory)?.as_str(),
+        "no memory"
+    );
     Ok(())
 }

@@ -101,9 +101,9 @@ fn a_transformer_is_asked_about(rt: HostRuntime) -> Result<(), Fail> {
     let term = transformer(rt.alloc())?;
     let query = query_of(rt.alloc(), &trace(rt.alloc())?, &Asked::Precise { term })?;
     let (term, state) = parts(rt.alloc(), query);
-    assert!(rt; term.is_some());
-    assert_eq!(rt; state.positives.len(), 1);
-    assert_eq!(rt; state.negatives.len(), 1);
+    assert!(rt; term == Some(transformer(rt.alloc())?));
+    assert_eq!(rt; state.positives.as_slice(), [positive(3)].as_slice());
+    assert_eq!(rt; state.negatives.as_slice(), [negative(2, 1)].as_slice());
     Ok(())
 }
 
@@ -112,7 +112,7 @@ fn no_examples_are_asked_about_beside_soundness(rt: HostRuntime) -> Result<(), F
     let term = transformer(rt.alloc())?;
     let query = query_of(rt.alloc(), &trace(rt.alloc())?, &Asked::Sound { term })?;
     let (term, state) = parts(rt.alloc(), query);
-    assert!(rt; term.is_some());
+    assert!(rt; term == Some(transformer(rt.alloc())?));
     assert!(rt; state.positives.is_empty() && state.negatives.is_empty());
     Ok(())
 }

@@ -2,19 +2,20 @@
 use Rattle.std.proofs.Common.{◌≡◌, ℕ, ◌+◌, ◌<◌, ◌≤◌, true, List, [], ◌∷◌, length, get_or, arith}
 use Rattle.std.specs.Prelude.{All, IsTrue, Some, slice_get, sum_by, nat_lt}
 use Rattle.std.specs.List.{AllByRecursion, list_all}
-use Rattle.std.proofs.lemmas.Bool.{and_parts, eqb-true, leb-true, ltb-true, lt-ltb}
+use Rattle.std.proofs.lemmas.Bool.{and_from, and_parts, eqb-true, leb-true, le-leb, ltb-true, lt-ltb}
 use Rattle.std.proofs.lemmas.List.Elements.{recursion_from_All, All-from_recursion}
 use Rattle.std.proofs.lemmas.Option.{get_or_from_slice_get, slice_get_within}
 use Rattle.std.proofs.lemmas.List.Sums.{sum_by-cons, AllPass-from_list_all, list_all-from_AllPass}
 use Rattle.am_bv.specs.declared.op.Op.{Op}
 use Rattle.am_bv.specs.Operators.{arity}
-use Rattle.am_bv.specs.Terms.{nodes}
+use Rattle.am_bv.specs.Terms.{has_arities, nodes}
+use Rattle.am_bv.specs.declared.term.Term.{Term}
 use Rattle.am_bv.proofs.Laws.{arity_most}
 use Rattle.am_tree.specs.declared.grammar.Production.{Production}
 use Rattle.am_tree.specs.declared.grammar.Production.TheVariants.{Leaf, Node}
 use Rattle.am_tree.specs.Grammars.{is_production, IsGrammar}
 use Rattle.am_tree.specs.Trees.{Rules}
-use Rattle.am_tree.specs.inside.Totals.{IsSmall}
+use Rattle.am_tree.specs.inside.Totals.{HasBounds, HasSmallLeaf}
 use Rattle.am_tree.specs.Slots.{positioned, arguments, AreInside}
 use Rattle.am_tree.proofs.Loops.{length-positioned}
 
@@ -75,19 +76,37 @@ few-at {rules = rules} {starts = starts} {depth = depth} g n ps e =
     let here : get_or rules n [] ≡ ps = get_or_from_slice_get rules n ps [] e in
     rw here at (All-from_recursion (λ (ps : List Production). length ps ≤ 64) rules (few rules starts depth g) n [] (slice_get_within rules n ps e))
 
-small-production : (count : ℕ) (p : Production) → IsTrue (is_production count p) → IsSmall p
-small-production count (Leaf t) h = leb-true (nodes t) 64 h
+-- a leaf is small, and its operators have their arguments
+pub leaf-small : (count : ℕ) (t : Term) → IsTrue (is_production count (Leaf t)) → nodes t ≤ 64
+leaf-small count t h = leb-true (nodes t) 64 (and_parts _ _ h).0
+
+-- a small term whose operators have their arguments is a leaf
+pub small-leaf : (count : ℕ) (t : Term) → nodes t ≤ 64 → IsTrue (has_arities t) → IsTrue (is_production count (Leaf t))
+small-leaf count t few right = and_from _ _ (le-leb (nodes t) 64 few) right
+
+small-production : (count : ℕ) (p : Production) → IsTrue (is_production count p) → HasSmallLeaf p
+small-production count (Leaf t) h = leaf-small count t h
 small-production count (Node op names) h = tt
 
 -- the conditions that the loops over a grammar's productions have
 pub each-short : {rules : Rules} {starts : List ℕ} {depth : ℕ} → IsGrammar rules starts depth → All (λ ps. All (λ p. length (arguments p) ≤ 3) ps) rules
 each-short {rules = rules} g = λ k d l i e m. short-production (length rules) _ (g.productions k d l i e m)
 
-pub each-small : {rules : Rules} {starts : List ℕ} {depth : ℕ} → IsGrammar rules starts depth → All (λ ps. All IsSmall ps) rules
+pub each-small : {rules : Rules} {starts : List ℕ} {depth : ℕ} → IsGrammar rules starts depth → All (λ ps. All HasSmallLeaf ps) rules
 each-small {rules = rules} g = λ k d l i e m. small-production (length rules) _ (g.productions k d l i e m)
 
 pub each-few : {rules : Rules} {starts : List ℕ} {depth : ℕ} → IsGrammar rules starts depth → All (λ ps. length ps ≤ 64) rules
 each-few {rules = rules} {starts = starts} {depth = depth} g = All-from_recursion (λ (ps : List Production). length ps ≤ 64) rules (few rules starts depth g)
+
+-- the bounds of a grammar's rules
+pub bounds : {rules : Rules} {starts : List ℕ} {depth : ℕ} → IsGrammar rules starts depth → HasBounds rules
+bounds {rules = rules} {starts = starts} {depth = depth} g = record {
+  count = g.few_rules;
+  few = each-few g;
+  short = each-short g;
+  small = each-small g;
+  inside = inside rules starts depth g;
+}
 
 -- a test of each number, and what it says
 

@@ -9,4 +9,5 @@ pub mod Totals
 pub mod Derivations
 pub mod Matched
 pub mod Listing
+pub mod Weighing
 pub mod Laws

@@ -16,7 +16,7 @@ use Rattle.am_tree.specs.declared.grammar.Production.{Production}
 use Rattle.am_tree.specs.declared.grammar.Production.TheVariants.{Node}
 use Rattle.am_tree.specs.declared.tree.Tree.{Tree}
 use Rattle.am_tree.specs.Trees.{Rules, production_at, production_of, children_of, tree, terms_at, term_of, Derives, IsTreeOf, IsFound}
-use Rattle.am_tree.specs.inside.Matched.{arguments_by, arguments_of, AreFound, tree_at, givers, Makes, Joins}
+use Rattle.am_tree.specs.inside.Matched.{arguments_by, arguments_of, AreFound, tree_at, givers, Produces, Joins}
 use Rattle.am_tree.proofs.Derivations.{zip-at, zip-lengths, derives-past, term-by_found}
 use Rattle.am_tree.proofs.Terms.{term_of-tree, Derives-tree}
 
@@ -115,13 +115,13 @@ none-join rules d names args tables i l h e at ts j =
 
 -- children and the whole tree
 
-pub made-tree : (rules : Rules) (d n p : ℕ) (q : Production) (term : Term) (ts : List Tree) → production_at rules n p ≡ Some q → Makes rules d q term ts → IsTreeOf rules (suc d) n term (tree p ts)
+pub made-tree : (rules : Rules) (d n p : ℕ) (q : Production) (term : Term) (ts : List Tree) → production_at rules n p ≡ Some q → Produces rules d q term ts → IsTreeOf rules (suc d) n term (tree p ts)
 made-tree rules d n p q term ts e m = record {
   derives = Derives-tree rules d n p ts (rw e m.derived);
   gives = term_of-tree rules n p ts ∙ rw e m.gives;
 }
 
-pub unmade-tree : (rules : Rules) (d n : ℕ) (q : Production) (term : Term) (t : Tree) → production_at rules n (production_of t) ≡ Some q → IsTreeOf rules (suc d) n term t → Makes rules d q term (children_of t)
+pub unmade-tree : (rules : Rules) (d n : ℕ) (q : Production) (term : Term) (t : Tree) → production_at rules n (production_of t) ≡ Some q → IsTreeOf rules (suc d) n term t → Produces rules d q term (children_of t)
 unmade-tree rules d n q term t e i = record {
   derived = rw e at i.derives;
   gives = sym (term-by_found rules n t q e) ∙ i.gives;
@@ -140,7 +140,7 @@ length-terms (n ∷ names) [] e = cc
 length-terms (n ∷ names) (f ∷ fs) e = ap suc (length-terms names fs (omega (arith, e)))
 
 pub node-parts : (rules : Rules) (d : ℕ) (op : Op) (names : List ℕ) (other : Op) (args : List Term) (ts : List Tree) →
-    Makes rules d (Node op names) (NodeTerm other args) ts → AreParts rules d op names other args ts
+    Produces rules d (Node op names) (NodeTerm other args) ts → AreParts rules d op names other args ts
 node-parts rules d op names other args ts m =
     let gives : NodeTerm op (terms_at names (givers rules ts)) ≡ NodeTerm other args = m.gives in
     let terms = same-args op other (terms_at names (givers rules ts)) args gives in
@@ -151,7 +151,7 @@ node-parts rules d op names other args ts m =
       joins = record { derived = m.derived; gives = terms };
     }
 
-pub parts-node : (rules : Rules) (d : ℕ) (op : Op) (names : List ℕ) (args : List Term) (ts : List Tree) → Joins rules d names args ts → Makes rules d (Node op names) (NodeTerm op args) ts
+pub parts-node : (rules : Rules) (d : ℕ) (op : Op) (names : List ℕ) (args : List Term) (ts : List Tree) → Joins rules d names args ts → Produces rules d (Node op names) (NodeTerm op args) ts
 parts-node rules d op names args ts j = record { derived = j.derived; gives = ap (NodeTerm op) j.gives }
 
 -- operators that compare equal are equal

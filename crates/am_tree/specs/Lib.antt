@@ -4,4 +4,5 @@ pub mod Slots
 pub mod Trees
 pub mod Listed
 pub mod Weights
+pub mod Theorems
 pub mod inside

@@ -42,8 +42,8 @@ pub type Rules = Row<Productions>;
 /// its trees.
 ///
 /// It has at most 16 nonterminals, 64 productions in all and 4 starts, and a depth from 1 to 5. A leaf
-/// has at most 64 nodes, a node as many nonterminals as its operator takes, and each nonterminal that
-/// is named is one of the grammar's.
+/// has at most 64 nodes, each operator as many arguments as it takes, and each nonterminal that is named
+/// is one of the grammar's.
 #[derive(Drop)]
 pub struct Grammar {
     pub rules: Rules,
@@ -118,7 +118,7 @@ fn is_production(production: &Production, count: usize) -> bool
     ensures { result ≡ is_production count production.now }
 {
     match production {
-        Production::Leaf(term) => term.nodes() <= MOST_LEAF_NODES,
+        Production::Leaf(term) => term.nodes() <= MOST_LEAF_NODES && term.has_arities(),
         Production::Node(op, names) => {
             names.len() == op.arity() as usize && are_below(names.as_slice(), count)
         }

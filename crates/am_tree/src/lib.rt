@@ -37,12 +37,13 @@
 //! of trees, one from each start. [`Grammar::find_tree`] answers a tree that derives and gives the term,
 //! and None **exactly where no tree does**.
 //!
-//! [`Grammar::count`] is the number of tuples of trees, one from each start, and None exactly where it is
-//! 2^128 or more. [`Grammar::layout`] is the list of slots in level order, each with the numbers of its
-//! productions and of their arguments' slots. [`Grammar::slots`] is the length of that list, and
+//! [`Grammar::count`] is the number of tuples of trees, one from each start, and None exactly where
+//! it is 2^128 or more; [`theorems`] has that it is the length of the list of all of them.
+//! [`Grammar::layout`] is the list of slots in level order, each with the numbers of its productions
+//! and of their arguments' slots. [`Grammar::slots`] is the length of that list, and
 //! [`Grammar::block_weight`] the sum over it of the weights of the productions, each with the width
-//! for its choice. [`shared`] gives the children of a slot: the arguments of its productions, each one
-//! once, in order of first occurrence.
+//! for its choice. [`shared`] gives the children of a slot: the arguments of its productions, each
+//! one once, in order of first occurrence.
 //!
 //! No clause speaks of the cost. `find_tree` matches the term against the productions from below, and
 //! decides each subterm within the depth once for each nonterminal, whatever the number of trees.
@@ -56,6 +57,7 @@ mod grammar;
 mod matching;
 mod slots;
 mod sums;
+pub mod theorems;
 mod tree;
 
 pub use grammar::{

@@ -3,7 +3,8 @@
 ghost use Rattle.std.specs.Prelude.{◌≡◌, ℕ, ◌≤◌, ◌<◌, ◌+◌, ◌^◌, [], ◌∷◌, All, IfOk, OnOk, ◌++◌, length, map};
 ghost use Rattle.std.specs.List.{list_any};
 ghost use Rattle.am_tree.specs.Slots.{same, distinct, positioned, arguments, is_offered, shared_by, at_argument};
-ghost use Rattle.am_tree.specs.Slots.{counted, slot_by, next_level, level_slots, slots_from, layout_of, AreInside};
+ghost use Rattle.am_tree.specs.Slots.{counted, slot_by, next_level, level_slots, slots_from, layout_of};
+ghost use Rattle.am_tree.specs.inside.Totals.{HasBounds};
 
 use crate::grammar::{Grammar, Production, Productions, Symbols};
 use am_bv::Row;
@@ -195,8 +196,7 @@ fn push_level(
     child: u32,
     symbols: &[u32],
 ) -> Result<(), AllocError>
-    requires short { All (λ ps. All (λ p. length (arguments p) ≤ 3) ps) rules.now }
-    requires few { All (λ ps. length ps ≤ 64) rules.now }
+    requires bounds { HasBounds rules.now }
     requires symbols { All (λ n. n < length rules.now) symbols.now }
     requires room { child + length (next_level rules.now below symbols.now) < 2 ^ 32 }
     ensures { OnOk result (slots.new ≡ slots.old ++ level_slots rules.now below level child symbols.now) }
@@ -227,8 +227,7 @@ fn next_symbols(
     below: u32,
     symbols: &[u32],
 ) -> Result<Vec<u32>, AllocError>
-    requires short { All (λ ps. All (λ p. length (arguments p) ≤ 3) ps) rules.now }
-    requires few { All (λ ps. length ps ≤ 64) rules.now }
+    requires bounds { HasBounds rules.now }
     requires symbols { All (λ n. n < length rules.now) symbols.now }
     ensures { IfOk result (λ r. r.items ≡ next_level rules.now below symbols.now) }
 {
@@ -259,9 +258,7 @@ fn push_slots(
     first: u32,
     symbols: &[u32],
 ) -> Result<(), AllocError>
-    requires short { All (λ ps. All (λ p. length (arguments p) ≤ 3) ps) rules.now }
-    requires few { All (λ ps. length ps ≤ 64) rules.now }
-    requires inside { AreInside (length rules.now) rules.now }
+    requires bounds { HasBounds rules.now }
     requires symbols { All (λ n. n < length rules.now) symbols.now }
     requires levels { level + below < 2 ^ 32 }
     requires room { first + length (slots_from rules.now below level first symbols.now) < 2 ^ 31 }

@@ -1,10 +1,9 @@
 //! Sums over all slots of a grammar, without making them.
 
-ghost use Rattle.std.specs.Prelude.{ℕ, ◌≡◌, ◌+◌, ◌-◌, ◌*◌, ◌^◌, ◌<◌, ◌≤◌, [], All, length, sum_by, slice_index};
-ghost use Rattle.std.specs.Prelude.{slice_index_or};
-ghost use Rattle.am_tree.specs.Slots.{arguments, shared_by, offered_by, layout_of, AreInside};
+ghost use Rattle.std.specs.Prelude.{ℕ, ◌≡◌, ◌+◌, ◌-◌, ◌*◌, ◌^◌, ◌<◌, ◌≤◌, All, length, sum_by, slice_index};
+ghost use Rattle.am_tree.specs.Slots.{arguments, layout_of, offered, offered_by, shared, shared_by};
 ghost use Rattle.am_tree.specs.Weights.{production_weight, slot_weight, block_weight};
-ghost use Rattle.am_tree.specs.inside.Totals.{total, IsSmall};
+ghost use Rattle.am_tree.specs.inside.Totals.{total, AreNumbers, HasBounds, HasSmallLeaf};
 
 use crate::grammar::{Grammar, MOST_RULES, Production, Productions};
 use crate::slots::{is_offered, shared};
@@ -36,10 +35,8 @@ impl Grammar {
     /// The sum over all slots, where a slot of the last level counts `last` of its nonterminal, and any
     /// other slot `inner` of it.
     fn total(&self, last: Sums, inner: Sums) -> u64
-        requires lens { (length last.items ≡ length self.now.rules)
-            × (length inner.items ≡ length self.now.rules) }
-        requires last { All (λ x. x ≤ 2 ^ 21) last.items }
-        requires inner { All (λ x. x ≤ 2 ^ 21) inner.items }
+        requires last { AreNumbers (length self.now.rules) (2 ^ 21) last.items }
+        requires inner { AreNumbers (length self.now.rules) (2 ^ 21) inner.items }
         ensures { let g = self.now in result ≡
             total g.rules (slice_index last.items) (slice_index inner.items) (g.depth - 1) g.starts }
     {
@@ -70,13 +67,10 @@ fn ones(count: usize) -> Sums
 
 /// What a slot of each nonterminal weighs, with so many levels below it.
 fn slot_weights(rules: &[Productions], w: Width, below: u32) -> Sums
-    requires count { length rules.now ≤ 16 }
-    requires few { All (λ ps. length ps ≤ 64) rules.now }
-    requires small { All (λ ps. All IsSmall ps) rules.now }
-    ensures len { length result.items ≡ length rules.now }
+    requires { HasBounds rules.now }
+    ensures numbers { AreNumbers (length rules.now) (2 ^ 21) result.items }
     ensures each { (n : ℕ) → n < length rules.now →
-        slice_index result.items n ≡ slot_weight w (offered_by below (slice_index_or rules.now n [])) }
-    ensures most { All (λ x. x ≤ 2 ^ 21) result.items }
+        slice_index result.items n ≡ slot_weight w (offered rules.now below n) }
 {
     let mut weights = Sums::new();
     for productions in rules {
@@ -88,7 +82,7 @@ fn slot_weights(rules: &[Productions], w: Width, below: u32) -> Sums
 /// What a slot with these productions weighs, with so many levels below it.
 fn slot_weight(productions: &[Production], w: Width, below: u32) -> u64
     requires few { length productions.now ≤ 64 }
-    requires small { All IsSmall productions.now }
+    requires small { All HasSmallLeaf productions.now }
     ensures value { result ≡ slot_weight w (offered_by below productions.now) }
     ensures most { result ≤ 2 ^ 21 }
 {
@@ -104,7 +98,7 @@ fn slot_weight(productions: &[Production], w: Width, below: u32) -> u64
 
 /// What a production weighs without its choice.
 fn production_weight(production: &Production, w: Width) -> u64
-    requires { IsSmall production.now }
+    requires { HasSmallLeaf production.now }
     ensures value { result ≡ production_weight w production.now }
     ensures most { result ≤ 288 * 64 }
 {
@@ -116,17 +110,13 @@ fn production_weight(production: &Production, w: Width) -> u64
 
 /// The sums with one level more below, by those with fewer.
 fn sums_above(rules: &[Productions], inner: &[u64], below: &[u64]) -> Sums
-    requires count { length rules.now ≤ 16 }
-    requires short { All (λ ps. All (λ p. length (arguments p) ≤ 3) ps) rules.now }
-    requires few { All (λ ps. length ps ≤ 64) rules.now }
-    requires inside { AreInside (length below.now) rules.now }
-    requires lens { length inner.now ≡ length rules.now }
-    requires inner { All (λ x. x ≤ 2 ^ 21) inner.now }
-    requires below { All (λ x. x ≤ 2 ^ 53) below.now }
+    requires rules { HasBounds rules.now }
+    requires inner { AreNumbers (length rules.now) (2 ^ 21) inner.now }
+    requires below { AreNumbers (length rules.now) (2 ^ 53) below.now }
     ensures len { length result.items ≡ length rules.now }
     ensures each { (n : ℕ) → n < length rules.now →
         slice_index result.items n ≡ slice_index inner.now n
-        + sum_by (λ a. slice_index below.now a.symbol) (shared_by 1 (slice_index_or rules.now n [])) }
+        + sum_by (λ a. slice_index below.now a.symbol) (shared rules.now 1 n) }
 {
     let mut sums = Sums::new();
     for (n, productions) in rules.iter().enumerate() {

@@ -1,6 +1,6 @@
 -- Wrapped intervals. A tuple has two words, its start and its end: the members are the words from the start upwards
 -- by 1, modulo 2 ^ w, to the end.
-use Rattle.std.specs.Prelude.{ℕ, ◌+◌, ◌-◌, ◌%◌, ◌^◌, ◌≤◌, Bool, true, false, ◌&&◌, ◌||◌, if◌then◌else◌, nat_lt, nat_le}
+use Rattle.std.specs.Prelude.{ℕ, ◌+◌, ◌-◌, ◌%◌, ◌^◌, ◌<◌, ◌≤◌, Bool, true, false, ◌&&◌, ◌||◌, if◌then◌else◌, nat_lt, nat_le}
 use Rattle.std.specs.Prelude.{◌==◌, List, [], ◌∷◌, slice_index, ⊤}
 use Rattle.std.specs.declared.option.Option.{Option}
 use Rattle.std.specs.declared.option.Option.TheVariants.{Some}
@@ -8,8 +8,9 @@ use Rattle.am_bv.specs.Terms.{binary}
 use Rattle.am_bv.specs.declared.op.Op.TheVariants.{Sub, Ule}
 use Rattle.am_bv.specs.declared.term.Term.{Term}
 use Rattle.am_bv.specs.declared.term.Term.TheVariants.{Const, Field}
+use Rattle.am_domain.specs.Abstraction.{Abstraction}
 use Rattle.am_domain.specs.Meaning.{Meaning}
-use Rattle.am_domain.specs.Walk.{steps}
+use Rattle.am_domain.specs.Walk.{point, steps}
 
 abbrev pub start : List ℕ → ℕ
 start a = slice_index a 0
@@ -33,9 +34,9 @@ wrapped_intervals = record { fields = 2; Valid = λ w a. ⊤; Member = IsOnTheWa
 abbrev pub wrapped_top : ℕ → List ℕ
 wrapped_top w = 0 ∷ (2 ^ w - 1) ∷ []
 
--- the word alone
-abbrev pub point : ℕ → List ℕ
-point c = c ∷ c ∷ []
+-- each member of the first is one of the second
+abbrev pub LiesIn : ℕ → List ℕ → List ℕ → Type 0
+LiesIn w a b = (c : ℕ) → c < 2 ^ w → IsOnTheWay w a c → IsOnTheWay w b c
 
 -- whether the first lies in the second: the second has all words, or the first begins and ends within it
 abbrev pub lies_in : ℕ → List ℕ → List ℕ → Bool
@@ -85,3 +86,17 @@ wrapped_valid_term = Const 1
 -- no more steps to the word than to the end
 abbrev pub wrapped_member_term : Term
 wrapped_member_term = binary Ule (binary Sub (Field 2) (Field 0)) (binary Sub (Field 1) (Field 0))
+
+-- wrapped intervals as a domain
+abbrev pub all_wrapped_intervals : Abstraction
+all_wrapped_intervals = record {
+  meaning = wrapped_intervals;
+  top = wrapped_top;
+  of_word = λ w. point;
+  some_member = λ w. start;
+  join = wrapped_join;
+  tidy = λ w. wrapped_tidy;
+  rank = wrapped_rank;
+  valid_term = λ w. wrapped_valid_term;
+  member_term = λ w. wrapped_member_term;
+}

@@ -13,8 +13,18 @@
 //! let rank = Wrapped.rank(w, &hull); // 9, the number of words outside
 //! ```
 //!
-//! The definitions stand in `specs/WrappedIntervals.antt`, with the rules of the join in their order.
-//! The proofs of the laws are in `specs/lemmas`.
+//! The join goes by rules, and is neither commutative nor associative nor monotone. At width 2 the join
+//! of (0, 0) with (2, 2) is (0, 2), and the other way round it is (2, 0): both are as narrow, and then
+//! the interval from the first argument to the second is taken.
+//!
+//! The definitions stand in `specs/WrappedIntervals.antt`, with the rules of the join in their order,
+//! and the domain as a record. The proofs of the laws are in `specs/lemmas`.
+//!
+//! # What is proved
+//!
+//! Each method equals its row of the definitions, and each law of `Domain` and of `Anchored` is proved
+//! for all words and tuples of every width from 2 to 8. The rule by which one interval lies in another
+//! holds exactly where each member of the one is a member of the other.
 #![tactic(auto)]
 
 mod wrapped;

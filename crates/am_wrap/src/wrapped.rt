@@ -1,13 +1,9 @@
 //! Wrapped intervals.
 
-ghost use Rattle.std.specs.Prelude.{◌≡◌, ◌^◌, ◌<◌};
-ghost use Rattle.std.proofs.Common.{lit≤, refl};
+ghost use Rattle.std.specs.Prelude.{◌≡◌, ◌^◌, ◌<◌, ◌↔◌, IsTrue};
 ghost use Rattle.am_domain.specs.Tuple.{IsTuple};
-ghost use Rattle.am_domain.specs.Walk.{steps};
-ghost use Rattle.am_wrap.specs.WrappedIntervals.{both_lie_in, bridge, lies_in, point, span, start, wrapped_intervals};
-ghost use Rattle.am_wrap.specs.WrappedIntervals.{wrapped_join, wrapped_member_term, wrapped_rank, wrapped_tidy};
-ghost use Rattle.am_wrap.specs.WrappedIntervals.{wrapped_top, wrapped_valid_term};
-ghost use Rattle.am_wrap.specs.lemmas.WrappedLaws as laws;
+ghost use Rattle.am_wrap.specs.WrappedIntervals.{all_wrapped_intervals, both_lie_in, bridge, lies_in, LiesIn, span};
+ghost use Rattle.am_wrap.specs.lemmas.WrappedLaws.{wrapped_laws, wrapped_walks};
 
 use am_bv::{Op, Term, Width};
 use am_domain::{Anchored, Domain, Fields};
@@ -31,7 +27,8 @@ fn span(w: Width, a: &Fields) -> u8
 fn lies_in(w: Width, a: &Fields, b: &Fields) -> bool
     requires first { IsTuple w 2 a.now }
     requires second { IsTuple w 2 b.now }
-    ensures { result ≡ lies_in w a.now b.now }
+    ensures members { IsTrue result ↔ LiesIn w a.now b.now }
+    ensures rule { result ≡ lies_in w a.now b.now }
 {
     let room = span(w, b);
     let before = w.difference(a.get(0), b.get(0));
@@ -67,23 +64,7 @@ fn bridge(w: Width, a: &Fields, b: &Fields) -> Fields
 }
 
 impl Domain for Wrapped {
-    ghost meaning = { λ _. wrapped_intervals };
-
-    ghost top = { λ _. wrapped_top };
-
-    ghost of_word = { λ _ w. point };
-
-    ghost some_member = { λ _ w. start };
-
-    ghost join = { λ _. wrapped_join };
-
-    ghost tidy = { λ _ w. wrapped_tidy };
-
-    ghost rank = { λ _. wrapped_rank };
-
-    ghost valid_term = { λ _ w. wrapped_valid_term };
-
-    ghost member_term = { λ _ w. wrapped_member_term };
+    ghost abstraction = { λ _. all_wrapped_intervals };
 
     fn fields(&self) -> u32 {
         2
@@ -137,35 +118,9 @@ impl Domain for Wrapped {
         Term::binary(alloc, Op::Ule, word, end)
     }
 
-    ghost has_fields = { λ _. lit≤ tt };
-
-    ghost has_members = { λ _. laws.has_members };
-
-    ghost has_top = { λ _. laws.has_top };
-
-    ghost holds_words = { λ _. laws.holds_words };
-
-    ghost joins_above = { λ _. laws.joins_above };
-
-    ghost descends = { λ _. laws.descends };
-
-    ghost tidies = { λ _. laws.tidies };
-
-    ghost tells_validity = { λ _. laws.tells_validity };
-
-    ghost tells_membership = { λ _. laws.tells_membership };
+    ghost keeps_laws = { λ _. wrapped_laws };
 }
 
 impl Anchored for Wrapped {
-    ghost has_two_fields = { λ _. refl };
-
-    ghost has_start = { λ _. laws.has_start };
-
-    ghost has_points = { λ _. laws.has_points };
-
-    ghost keeps_start = { λ _. laws.keeps_start };
-
-    ghost walks_members = { λ _. laws.walks_members };
-
-    ghost has_parts = { λ _. laws.has_parts };
+    ghost is_anchored = { λ _. wrapped_walks };
 }

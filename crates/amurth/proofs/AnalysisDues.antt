@@ -1,37 +1,16 @@
 -- The responses to an analysis.
-use Rattle.std.proofs.Common.{◌≡◌, ℕ, ◌+◌, ◌<◌, List, Some, Result, Ok, Err, get_or, length, map, take, ap, subst, sym, ◌∙◌, inl, inr}
-use Rattle.std.specs.Prelude.{All, IfErr, IfOk}
+use Rattle.std.proofs.Common.{◌≡◌, ℕ, ◌+◌, ◌<◌, List, Some, Result, Ok, Err, get_or, length, take, ap, subst, sym, ◌∙◌}
+use Rattle.std.specs.Prelude.{All, IfErr}
 use Rattle.std.proofs.lemmas.List.{take_more}
-use Rattle.std.proofs.lemmas.List.Elements.{All-push, All-weaker}
+use Rattle.std.proofs.lemmas.List.Elements.{All-push}
 use Rattle.std.proofs.lemmas.Option.{slice_get-get_or}
 use Rattle.am_cert.specs.Certificate.{Certificate}
-use Rattle.am_cert.specs.Checking.{IsAcceptable}
-use Rattle.am_flow.specs.Flows.{IsFirstMisfit}
 use Rattle.am_query.specs.declared.fault.Fault.{Fault}
-use Rattle.am_syntax.specs.declared.refusal.Refusal.{Refusal}
-use Rattle.am_syntax.specs.declared.refusal.Refusal.TheVariants.{Mismatch}
-use Rattle.amurth.specs.Analysed.{Analysis, IsAnalyseDue, IsAnalysisText, signature}
-use Rattle.amurth.specs.Lines.{refusal_line}
-use Rattle.amurth.specs.inside.Analyses.{IsFailureAmong, IsFailureAt, IsFirstFault, IsProved}
+use Rattle.amurth.specs.Analysed.{IsFirstFault}
+use Rattle.amurth.specs.Checked.{IsProved}
+use Rattle.amurth.specs.inside.Analyses.{IsFailureAmong, IsFailureAt}
 use Rattle.amurth.specs.declared.analysing.Unaccepted.{Unaccepted}
 use Rattle.amurth.specs.declared.analysing.Unaccepted.TheVariants as unaccepted
-use Rattle.amurth.specs.declared.response.Response.{Response}
-use Rattle.amurth.specs.declared.status.Status.TheVariants.{Refused}
-
--- an operation doesn't fit
-pub mismatch_due : {E : Type 0} (a : Analysis) (refusal : Refusal) →
-    ((i : ℕ) × (refusal ≡ Mismatch i) × IsFirstMisfit a.flow (map signature a.certificates) i) → (result : Result Response E) →
-    IfOk result (λ (r : Response). (r.status ≡ Refused) × (r.text.items ≡ refusal_line refusal)) →
-    IfOk result (λ (r : Response). (input : List ℕ) → IsAnalysisText input a → IsAnalyseDue r.status input r.text.items)
-mismatch_due a refusal first (Ok r) h = λ input text. inr (inr (inl (record {
-  ended = h.0;
-  analysis = a;
-  text = text;
-  number = first.0;
-  first = first.2;
-  wrote = h.1 ∙ ap refusal_line first.1;
-})))
-mismatch_due a refusal first (Err e) h = tt
 
 -- a certificate that fails, behind those that are accepted, is the first
 pub failure_among : (cs : List Certificate) (i : ℕ) (c : Certificate) (e : Unaccepted) → i < length cs →
@@ -40,7 +19,7 @@ failure_among cs i c (unaccepted.Rejected number fault) inside is proved h =
     subst (λ n. IsFirstFault cs n fault) (sym h.0) (record {
       certificate = c;
       here = slice_get-get_or cs i c inside ∙ ap (λ (x : Certificate). Some x) (sym is);
-      before = All-weaker IsProved IsAcceptable (λ x p. p.accepted) (take i cs) proved;
+      before = proved;
       has = h.1;
     })
 failure_among cs i c unaccepted.NoMemory inside is proved h = tt

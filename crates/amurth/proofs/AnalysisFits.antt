@@ -22,7 +22,7 @@ use Rattle.am_query.specs.declared.outcome.Outcome.TheVariants.{Absent, Best, Co
 use Rattle.am_query.specs.declared.turn.Turn.{Turn}
 use Rattle.am_syntax.specs.Pieces.{good_from}
 use Rattle.amurth.specs.Analysed.{best_terms, is_best, operation, signature}
-use Rattle.amurth.specs.inside.Analyses.{IsProved}
+use Rattle.amurth.specs.Checked.{IsProved}
 
 -- ---- terms
 

@@ -14,10 +14,9 @@ use Rattle.am_syntax.specs.Texts.{Answers, MakesAt, whole}
 use Rattle.am_syntax.specs.declared.refusal.ReadError.{ReadError}
 use Rattle.am_syntax.specs.declared.refusal.ReadError.TheVariants.{NoMemory, Refused}
 use Rattle.am_syntax.specs.declared.refusal.Refusal.{Refusal}
-use Rattle.am_syntax.proofs.Laws.{Takes-length, bind_ok, chosen, ok_is, reached_here, reached_ok, so_far_fails}
+use Rattle.am_syntax.proofs.Laws.{Takes-length, bind_ok, chosen, ok_is, reached_ok, so_far_fails}
 use Rattle.am_cert.specs.Certificate.{Certificate}
 use Rattle.am_cert.specs.declared.limits.TheConstants.{MOST_BYTES}
-use Rattle.am_syntax.specs.declared.refusal.Failure.TheVariants as failure
 use Rattle.am_cert.specs.Grammar.{shape_of, version}
 use Rattle.am_cert.specs.Texts.{Draft, answered, draft, settled}
 use Rattle.am_cert.proofs.Laws.{answered_law, draft_shape, heading_law, reached_length, tokens_length}
@@ -140,8 +139,7 @@ loop_refused {A = A} view result e is seen s left all comes so_far h =
     subst (λ (q : Result A ReadError). ReadsAt view q left all) (sym is)
     (reads_err (λ (d : Draft). d) view e left (certificate_behind seen s) all
     (λ stop refused.
-    so_far_fails (next_is (codes "certificate")) certificate_behind behind_moves (failure.Refused stop.0) seen s s stop.1 all
-    comes (reached_here s) refused so_far) h)
+    so_far_fails (next_is (codes "certificate")) certificate_behind behind_moves seen s stop all comes refused so_far) h)
 
 -- the tokens of an input are few
 pub few_tokens : (text : List ℕ) (s : Left) → s ≡ text_left text → length text ≤ MOST_BYTES → length s.tokens < 2 ^ 32

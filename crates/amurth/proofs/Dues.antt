@@ -1,205 +1,156 @@
 -- What is due to an input.
-use Rattle.std.proofs.Common.{◌≡◌, ℕ, ◌+◌, ◌<◌, ◌≤◌, List, [], ◌++◌, refl, None, Some, IfSome, Ok, Err, length, arith, inl, inr, ◌∙◌, ap, sym, subst, length-append}
-use Rattle.std.specs.Prelude.{IfOk, Result}
+use Rattle.std.proofs.Common.{◌≡◌, ℕ, ◌+◌, ◌<◌, List, [], refl, lit<, None, Some, IfSome, Ok, Err, length, arith, inl, inr, ap, subst, sym, ◌∙◌, length-append}
+use Rattle.std.specs.Prelude.{Contains, IfOk, Result}
 use Rattle.std.specs.declared.option.Option.{Option}
-use Rattle.std.specs.Io.KnownBytes.{Consumes, IsAtEnd}
-use Rattle.std.proofs.KnownBytes.{Consumes-nil, Consumes-whole}
-use Rattle.am_all.specs.Sizes.{IsTooGreat}
-use Rattle.am_cert.specs.Checking.{IsVerdict}
-use Rattle.am_cert.specs.declared.feed.FeedEnd.{FeedEnd}
-use Rattle.am_cert.specs.declared.feed.FeedEnd.TheVariants as feed
 use Rattle.am_cert.specs.declared.limits.TheConstants.{MOST_BYTES}
+use Rattle.am_cert.specs.Certificate.{Certificate}
+use Rattle.am_cert.specs.Texts.{Reads as ReadsCertificate, certificate_of}
 use Rattle.am_io.specs.Streams.{Loses}
 use Rattle.am_problem.specs.Problem.{Problem}
 use Rattle.am_query.specs.declared.outcome.Outcome.{Outcome}
 use Rattle.am_query.specs.declared.outcome.Outcome.TheVariants.{Absent, Best, Conflicts, Turns}
 use Rattle.am_syntax.specs.declared.refusal.Refusal.{Refusal}
 use Rattle.am_syntax.specs.declared.refusal.Refusal.TheVariants.{Long}
-use Rattle.am_text.specs.Gathered.{Gathered}
-use Rattle.amurth.specs.Checked.{IsCheckDue, IsReport}
+use Rattle.amurth.specs.Analysed.{Analysis, IsAnalysisDue}
+use Rattle.amurth.specs.Answers.{IsAnswer, IsTextOf}
+use Rattle.amurth.specs.Checked.{IsJudged}
 use Rattle.amurth.specs.Lines.{refusal_line}
-use Rattle.amurth.specs.Listed.{IsListDue}
+use Rattle.amurth.specs.Listed.{IsListing}
 use Rattle.amurth.specs.Made.{IsMakeDue}
-use Rattle.amurth.specs.Run.{IsDue, IsDueSomehow, IsTold, input_of}
-use Rattle.amurth.specs.Synthesised.{IsProblemText, status_of}
+use Rattle.amurth.specs.Run.{IsDue, IsDueTo, ends_of, input_of}
+use Rattle.amurth.specs.Synthesised.{status_of}
 use Rattle.amurth.specs.declared.command.Command.{Command}
 use Rattle.amurth.specs.declared.command.Command.TheVariants.{Analyse, Check, List as ListCommand, Make, Synth}
 use Rattle.amurth.specs.declared.response.Response.{Response}
 use Rattle.amurth.specs.declared.status.Status.{Status}
-use Rattle.amurth.specs.declared.status.Status.TheVariants.{Done, Refused, Rejected}
-use Rattle.amurth.specs.inside.Answered.{AnswersText, IsAnswered}
-use Rattle.amurth.specs.inside.Fed.{IsFed}
+use Rattle.amurth.specs.declared.status.Status.TheVariants.{Refused}
 
--- ---- what is due tells how the work ended
+-- what is due to a value is the answer to each text of it
+pub answered : {A E : Type 0} (Reads : List ℕ → A → Type 0) (value_of : List ℕ → Result A Refusal)
+    (Due : A → Status → List ℕ → Type 0) (input : List ℕ) (value : A) → IsTextOf Reads input value →
+    (result : Result Response E) → IfOk result (λ (r : Response). Due value r.status r.text.items) →
+    IfOk result (λ (r : Response). IsAnswer Reads value_of Due r.status input r.text.items)
+answered Reads value_of Due input value text (Ok r) due = inl (record { value = value; text = text; due = due })
+answered Reads value_of Due input value text (Err e) due = tt
 
-told_as : (s t : Status) → s ≡ t → IsTold t → IsTold s
-told_as s t e h = subst IsTold (sym e) h
+-- ---- how a command may end
 
-outcome_told : (o : Outcome) → IsTold (status_of o)
-outcome_told (Best t trace sound_log best_log) = tt
-outcome_told (Absent trace log) = tt
-outcome_told (Turns trace) = tt
-outcome_told (Conflicts trace asked log) = tt
+end_is : (c : Command) (s t : Status) → s ≡ t → Contains (ends_of c) t → Contains (ends_of c) s
+end_is c s t same there = subst (Contains (ends_of c)) (sym same) there
 
-report_told : (verdict : Result (Unit {0}) FeedEnd) (s : Status) (written : List ℕ) → IsReport verdict s written → IsTold s
-report_told (Ok u) s written h = told_as s Done h.0 tt
-report_told (Err (feed.Refused r)) s written h = told_as s Refused h.0 tt
-report_told (Err (feed.Rejected f)) s written h = told_as s Rejected h.0 tt
-report_told (Err feed.NoMemory) s written h = absurd h
+synth_end : (o : Outcome) → Contains (ends_of Synth) (status_of o)
+synth_end (Best t trace sound_log best_log) = (0, lit< tt, refl)
+synth_end (Absent trace log) = (0, lit< tt, refl)
+synth_end (Turns trace) = (2, lit< tt, refl)
+synth_end (Conflicts trace asked log) = (3, lit< tt, refl)
 
--- what is due with a status is due somehow
-pub due_somehow : (c : Command) (s : Status) (written : List ℕ) (input : Option (List ℕ)) →
-    IfSome input (λ bytes. IsDue c s bytes written) → IfSome input (λ bytes. IsDueSomehow c bytes written)
-due_somehow c s written None due = tt
-due_somehow c s written (Some bytes) due = (s, due)
+make_end : (n : ℕ) (o : Outcome) → Contains (ends_of (Make n)) (status_of o)
+make_end n (Best t trace sound_log best_log) = (0, lit< tt, refl)
+make_end n (Absent trace log) = (0, lit< tt, refl)
+make_end n (Turns trace) = (1, lit< tt, refl)
+make_end n (Conflicts trace asked log) = (2, lit< tt, refl)
 
--- what is due tells how the work ended
-pub due_told : (c : Command) (s : Status) (input written : List ℕ) → IsDue c s input written → IsTold s
-due_told Synth s input written (inl h) = told_as s _ h.synthesis.ended (outcome_told h.outcome)
-due_told Synth s input written (inr h) = told_as s _ h.ended tt
-due_told Check s input written h = report_told h.verdict s written h.report
-due_told Analyse s input written (inl h) = told_as s _ h.ended tt
-due_told Analyse s input written (inr (inl h)) = told_as s _ h.ended tt
-due_told Analyse s input written (inr (inr (inl h))) = told_as s _ h.ended tt
-due_told Analyse s input written (inr (inr (inr h))) = told_as s _ h.ended tt
-due_told ListCommand s input written (inl h) = told_as s _ h.ended tt
-due_told ListCommand s input written (inr (inl h)) = told_as s _ h.ended tt
-due_told ListCommand s input written (inr (inr h)) = told_as s _ h.ended tt
-due_told (Make n) s input written h = told_as s _ h.synthesis.ended (outcome_told h.outcome)
+judged_end : (c : Certificate) (s : Status) (written : List ℕ) → IsJudged c s written → Contains (ends_of Check) s
+judged_end c s written (inl h) = end_is Check s _ h.ended (0, lit< tt, refl)
+judged_end c s written (inr h) = end_is Check s _ h.ended (2, lit< tt, refl)
 
--- ---- texts that are too long
+check_end : (s : Status) (input written : List ℕ) → IsAnswer ReadsCertificate certificate_of IsJudged s input written →
+    Contains (ends_of Check) s
+check_end s input written (inl h) = judged_end h.value s written h.due
+check_end s input written (inr h) = end_is Check s _ h.ended (1, lit< tt, refl)
 
--- a text that is too long is refused
-pub long_due : (c : Command) → AnswersText c → (input : List ℕ) → MOST_BYTES < length input → (s : Status) → s ≡ Refused →
-    (written : List ℕ) → written ≡ refusal_line Long → IsDue c s input written
-long_due Synth may input long s ended written wrote =
-    inr (record { ended = ended; refusal = Long; first = inl (long, refl); wrote = wrote })
-long_due Check may input long s ended written wrote = absurd may
-long_due Analyse may input long s ended written wrote =
-    inr (inl (record { ended = ended; refusal = Long; first = inl (long, refl); wrote = wrote }))
-long_due ListCommand may input long s ended written wrote =
-    inr (inl (record { ended = ended; refusal = Long; first = inl (long, refl); wrote = wrote }))
-long_due (Make n) may input long s ended written wrote = absurd may
+analysis_end : (a : Analysis) (s : Status) (written : List ℕ) → IsAnalysisDue a s written → Contains (ends_of Analyse) s
+analysis_end a s written (inl h) = end_is Analyse s _ h.ended (0, lit< tt, refl)
+analysis_end a s written (inr (inl h)) = end_is Analyse s _ h.ended (1, lit< tt, refl)
+analysis_end a s written (inr (inr h)) = end_is Analyse s _ h.ended (2, lit< tt, refl)
 
--- ---- certificates that are fed
+listing_end : (p : Problem) (s : Status) (written : List ℕ) → IsListing p s written → Contains (ends_of ListCommand) s
+listing_end p s written (inl h) = end_is ListCommand s _ h.ended (0, lit< tt, refl)
+listing_end p s written (inr h) = end_is ListCommand s _ h.ended (1, lit< tt, refl)
 
--- a verdict on too many bytes is one on more bytes
-longer_verdict : (stream rest : List ℕ) → MOST_BYTES < length stream → (verdict : Result (Unit {0}) FeedEnd) →
-    IsVerdict stream verdict → IsVerdict (stream ++ rest) verdict
-longer_verdict stream rest long (Ok u) h = absurd (omega (arith, long, h.1.short))
-longer_verdict stream rest long (Err (feed.Refused r)) (inl h) =
-    inl (omega (arith, long, length-append stream rest), h.1)
-longer_verdict stream rest long (Err (feed.Refused r)) (inr h) = absurd (omega (arith, long, h.0))
-longer_verdict stream rest long (Err (feed.Rejected f)) h = absurd (omega (arith, long, h.1.short))
-longer_verdict stream rest long (Err feed.NoMemory) h = tt
+-- what is due has a status that the command may end with
+pub due_possible : (c : Command) (s : Status) (input written : List ℕ) → IsDue c s input written → Contains (ends_of c) s
+due_possible Synth s input written (inl h) = end_is Synth s _ h.due.synthesis.ended (synth_end h.due.outcome)
+due_possible Synth s input written (inr h) = end_is Synth s _ h.ended (1, lit< tt, refl)
+due_possible Check s input written h = check_end s input written h.answer
+due_possible Analyse s input written (inl h) = analysis_end h.value s written h.due
+due_possible Analyse s input written (inr h) = end_is Analyse s _ h.ended (1, lit< tt, refl)
+due_possible ListCommand s input written (inl h) = listing_end h.value s written h.due
+due_possible ListCommand s input written (inr h) = end_is ListCommand s _ h.ended (1, lit< tt, refl)
+due_possible (Make n) s input written h = end_is (Make n) s _ h.synthesis.ended (make_end n h.outcome)
 
-longer_due : (stream rest : List ℕ) → MOST_BYTES < length stream → (s : Status) (written : List ℕ) →
-    IsCheckDue s stream written → IsCheckDue s (stream ++ rest) written
-longer_due stream rest long s written h = record {
-  verdict = h.verdict;
-  right = longer_verdict stream rest long h.verdict h.right;
-  report = h.report;
-  own = λ problem synthesised short. absurd (omega (arith, long, short, length-append stream rest));
+-- ---- inputs that are read
+
+-- the command has an input
+abbrev pub HasInput : Command → Type 0
+HasInput Synth = Unit {0}
+HasInput Check = Unit {0}
+HasInput Analyse = Unit {0}
+HasInput ListCommand = Unit {0}
+HasInput (Make n) = ⊥
+
+pub has_input : {c d : Command} → c ≡ d → HasInput d → HasInput c
+has_input same has = subst HasInput (sym same) has
+
+-- it reads what the source has
+reads_left : (c : Command) → HasInput c → (left : Option (List ℕ)) → left ≡ input_of c left
+reads_left Synth has left = refl
+reads_left Check has left = refl
+reads_left Analyse has left = refl
+reads_left ListCommand has left = refl
+reads_left (Make n) has left = absurd has
+
+-- what is due to the text that was read is due to the source
+pub read_due : (c : Command) → HasInput c → (left : Option (List ℕ)) (text : List ℕ) →
+    IfSome left (λ all. text ≡ all) → (s : Status) (written : List ℕ) → IsDue c s text written → IsDueTo c left s written
+read_due c has left text whole s written due = record {
+  possible = due_possible c s text written due;
+  due = subst (λ input. IfSome input (λ all. IsDue c s all written)) (reads_left c has left) (told left whole);
 }
-
--- what is due to too many bytes of an input is due to the whole
-long_fed : (old new : Option (List ℕ)) (stream : List ℕ) → Consumes old new stream → MOST_BYTES < length stream →
-    (s : Status) (written : List ℕ) → IsCheckDue s stream written → IfSome old (λ input. IsCheckDue s input written)
-long_fed None new stream taken long s written h = tt
-long_fed (Some all) None stream taken long s written h = absurd taken
-long_fed (Some all) (Some rest) stream taken long s written h =
-    subst (λ input. IsCheckDue s input written) (sym taken) (longer_due stream rest long s written h)
-
--- what is due to the bytes that were fed is due to the input
-pub fed_due : (old new : Option (List ℕ)) (feed : Gathered) (is : IsFed old new feed) (s : Status) (written : List ℕ) →
-    IsCheckDue s is.stream written → IfSome old (λ input. IsCheckDue s input written)
-fed_due old new feed is s written h =
-    elim is.whole [
-      | inl ended ↦ Consumes-whole old new is.stream (λ input. IsCheckDue s input written) is.taken ended h
-      | inr long ↦ long_fed old new is.stream is.taken long s written h
-    ]
-
--- where a certificate is accepted, all was fed
-accepted_short : (stream : List ℕ) (verdict : Result (Unit {0}) FeedEnd) (s : Status) (written : List ℕ) → s ≡ Done →
-    IsVerdict stream verdict → IsReport verdict s written → length stream ≤ MOST_BYTES
-accepted_short stream (Ok u) s written done h report = h.1.short
-accepted_short stream (Err (feed.Refused r)) s written done h report = cc (report.0)
-accepted_short stream (Err (feed.Rejected f)) s written done h report = cc (report.0)
-accepted_short stream (Err feed.NoMemory) s written done h report = absurd report
-
-pub fed_read : (old new : Option (List ℕ)) (feed : Gathered) (is : IsFed old new feed) (s : Status) (written : List ℕ) →
-    s ≡ Done → IsCheckDue s is.stream written → IsAtEnd new
-fed_read old new feed is s written done h =
-    elim is.whole [
-      | inl ended ↦ ended
-      | inr long ↦ absurd (omega (arith, long, accepted_short is.stream h.verdict s written done h.right h.report))
-    ]
-
--- ---- texts
-
--- what is due to each text of a problem is due to this one
-pub at_text : {A E : Type 0} (Text : List ℕ → Type 0) (Due : List ℕ → A → Type 0) (result : Result A E) (input : List ℕ) →
-    Text input → IfOk result (λ r. (other : List ℕ) → Text other → Due other r) → IfOk result (Due input)
-at_text Text Due (Ok r) input is h = h input is
-at_text Text Due (Err e) input is h = tt
-
--- where a source lost so many bytes, it had them
-pub lost_long : (old new : Option (List ℕ)) (bytes : List ℕ) (P : List ℕ → Type 0) → Consumes old new bytes →
-    MOST_BYTES < length bytes → ((input : List ℕ) → MOST_BYTES < length input → P input) → IfSome old P
-lost_long None new bytes P taken long h = tt
-lost_long (Some all) None bytes P taken long h = absurd taken
-lost_long (Some all) (Some rest) bytes P taken long h =
-    h all (omega (arith, long, ap length taken ∙ length-append bytes rest))
-
--- ---- responses
-
--- a command that answers a text reads what the source has
-text_read : (c : Command) → AnswersText c → (left : Option (List ℕ)) → input_of c left ≡ left
-text_read Synth may left = refl
-text_read Analyse may left = refl
-text_read ListCommand may left = refl
-text_read Check may left = absurd may
-text_read (Make n) may left = absurd may
-
--- the refusal of a problem that isn't small is due to each of its texts
-pub too_great_due : {E : Type 0} (p : Problem) (refusal : Refusal) → IsTooGreat p refusal → (result : Result Response E) →
-    IfOk result (λ (r : Response). (r.status ≡ Refused) × (r.text.items ≡ refusal_line refusal)) →
-    IfOk result (λ (r : Response). (input : List ℕ) → IsProblemText input p → IsListDue r.status input r.text.items)
-too_great_due p refusal great (Ok r) h = λ input text. inr (inr (record {
-  ended = h.0;
-  problem = p;
-  text = text;
-  refusal = refusal;
-  great = great;
-  wrote = h.1;
-}))
-too_great_due p refusal great (Err e) h = tt
-
--- an input that is too long is refused
-pub long_answered : (c : Command) → AnswersText c → (r : Response) → (r.status ≡ Refused) × (r.text.items ≡ refusal_line Long) →
-    (old new : Option (List ℕ)) → Loses old new (MOST_BYTES + 1) → (before after : ℕ) → after ≡ before →
-    IsAnswered c (Ok r) old new before after
-long_answered c may r refused old new lost before after same =
-    let Due : List ℕ → Type 0 = λ input. IsDue c r.status input r.text.items in
-    let long : MOST_BYTES < length lost.0 = omega (arith, lost.2) in
-    record {
-      told = told_as r.status Refused refused.0 tt;
-      due = subst (λ left. IfSome left Due) (sym (text_read c may old)) (lost_long old new lost.0 Due lost.1 long
-          (λ input longer. long_due c may input longer r.status refused.0 r.text.items refused.1));
-      end = λ done. absurd (let e : Done ≡ Refused = sym done ∙ refused.0 in cc);
-      fault = λ e. cc;
-      kept = λ _. same;
-      lost = (lost.0, lost.1, omega (arith, lost.2));
-    }
+  where
+    told : (left : Option (List ℕ)) → IfSome left (λ all. text ≡ all) → IfSome left (λ all. IsDue c s all written)
+    told None whole = tt
+    told (Some all) whole = subst (λ input. IsDue c s input written) whole due
 
 -- a made problem has no input
-pub made_answered : (n : ℕ) (r : Response) → IsMakeDue n r.status r.text.items → (left : Option (List ℕ)) (faults : ℕ) →
-    IsAnswered (Make n) (Ok r) left left faults faults
-made_answered n r due left faults = record {
-  told = due_told (Make n) r.status [] r.text.items due;
-  due = due;
-  end = λ _. tt;
-  fault = λ e. cc;
-  kept = λ _. refl;
-  lost = ([], Consumes-nil left, omega arith);
+pub made_due : (n : ℕ) (left : Option (List ℕ)) (s : Status) (written : List ℕ) → IsMakeDue n s written →
+    IsDueTo (Make n) left s written
+made_due n left s written due = record { possible = due_possible (Make n) s [] written due; due = due }
+
+-- ---- inputs that are too long
+
+long_refused : (c : Command) → HasInput c → (input : List ℕ) → MOST_BYTES < length input →
+    IsDue c Refused input (refusal_line Long)
+long_refused Synth has input long = inr (record { ended = refl; refusal = Long; first = inl (long, refl); wrote = refl })
+long_refused Check has input long = record {
+  answer = inr (record { ended = refl; refusal = Long; first = inl (long, refl); wrote = refl });
+  own = λ problem synthesised short. absurd (omega (arith, long, short));
+}
+long_refused Analyse has input long = inr (record { ended = refl; refusal = Long; first = inl (long, refl); wrote = refl })
+long_refused ListCommand has input long =
+    inr (record { ended = refl; refusal = Long; first = inl (long, refl); wrote = refl })
+long_refused (Make n) has input long = absurd has
+
+refusable : (c : Command) → HasInput c → Contains (ends_of c) Refused
+refusable Synth has = (1, lit< tt, refl)
+refusable Check has = (1, lit< tt, refl)
+refusable Analyse has = (1, lit< tt, refl)
+refusable ListCommand has = (1, lit< tt, refl)
+refusable (Make n) has = absurd has
+
+-- where a source lost so many bytes, it had them
+lost_long : (left new : Option (List ℕ)) (P : List ℕ → Type 0) → Loses left new (MOST_BYTES + 1) →
+    ((input : List ℕ) → MOST_BYTES < length input → P input) → IfSome left P
+lost_long None new P lost h = tt
+lost_long (Some all) None P lost h = absurd lost.1
+lost_long (Some all) (Some rest) P lost h =
+    h all (omega (arith, lost.2, ap length lost.1 ∙ length-append lost.0 rest))
+
+-- an input that is too long is refused
+pub long_due : (c : Command) → HasInput c → (left new : Option (List ℕ)) → Loses left new (MOST_BYTES + 1) →
+    IsDueTo c left Refused (refusal_line Long)
+long_due c has left new lost = record {
+  possible = refusable c has;
+  due = subst (λ input. IfSome input (λ all. IsDue c Refused all (refusal_line Long))) (reads_left c has left)
+      (lost_long left new (λ all. IsDue c Refused all (refusal_line Long)) lost (long_refused c has));
 }

@@ -5,9 +5,8 @@ use Rattle.std.specs.Prelude.{Option, None, Some, Result, Ok, Err, slice_get, if
 use Rattle.am_text.specs.Tokens.{bad_byte, text_left}
 use Rattle.am_bv.specs.declared.term.Term.{Term}
 use Rattle.am_cert.specs.Certificate.{Certificate}
-use Rattle.am_cert.specs.Checking.{HasFault, IsAcceptable}
+use Rattle.am_cert.specs.Checking.{HasFault}
 use Rattle.am_cert.specs.Texts.{Draft, draft, settled}
-use Rattle.am_cert.specs.declared.limits.TheConstants.{MOST_BYTES}
 use Rattle.am_flow.specs.Flows.{AllFit, Flow, IsFirstMisfit, Operation}
 use Rattle.am_flow.specs.declared.signature.Signature.{Signature}
 use Rattle.am_flow.specs.Grammar.{flow}
@@ -23,8 +22,9 @@ use Rattle.am_syntax.specs.Texts.{whole}
 use Rattle.am_syntax.specs.declared.refusal.Cause.TheVariants.{Count}
 use Rattle.am_syntax.specs.declared.refusal.Refusal.{Refusal}
 use Rattle.am_syntax.specs.declared.refusal.Refusal.TheVariants.{BadByte, Mismatch}
+use Rattle.amurth.specs.Answers.{IsAnswer}
+use Rattle.amurth.specs.Checked.{IsProved}
 use Rattle.amurth.specs.Lines.{fault_line, refusal_line}
-use Rattle.amurth.specs.Synthesised.{IsRefusedBy}
 use Rattle.amurth.specs.declared.limits.TheConstants.{MOST_CERTIFICATES}
 use Rattle.amurth.specs.declared.status.Status.{Status}
 use Rattle.amurth.specs.declared.status.Status.TheVariants.{Done, Refused, Rejected}
@@ -106,49 +106,45 @@ operation c = record { problem = c.problem; terms = best_terms c.outcome }
 
 -- ---- what is written
 
--- a text that isn't too long is this analysis's
-pub record IsAnalysisText (input : List ℕ) (a : Analysis) : Type 0 where
-  pub short : length input ≤ MOST_BYTES
-  pub reads : analysis_of input ≡ Ok a
-
--- all operations fit into the flow, all certificates are accepted, and the table is written, which covers all runs
-pub record IsAnalysed (status : Status) (input written : List ℕ) : Type 0 where
+-- all operations fit into the flow, all certificates are accepted and right, and the table is written, which covers
+-- all runs
+pub record IsAnalysed (a : Analysis) (status : Status) (written : List ℕ) : Type 0 where
   pub ended : status ≡ Done
-  pub analysis : Analysis
-  pub text : IsAnalysisText input analysis
-  pub fit : AllFit analysis.flow (map signature analysis.certificates)
-  pub accepted : All IsAcceptable analysis.certificates
+  pub fit : AllFit a.flow (map signature a.certificates)
+  pub proved : All IsProved a.certificates
   pub table : State
-  pub is_table : IsTable analysis.flow (map operation analysis.certificates) table
-  pub covers : CoversRuns analysis.flow (map operation analysis.certificates) table
+  pub is_table : IsTable a.flow (map operation a.certificates) table
+  pub covers : CoversRuns a.flow (map operation a.certificates) table
   pub wrote : written ≡ table_text table
 
 -- an operation doesn't fit into the flow, and the number of the first is written
-pub record IsMismatched (status : Status) (input written : List ℕ) : Type 0 where
+pub record IsMismatched (a : Analysis) (status : Status) (written : List ℕ) : Type 0 where
   pub ended : status ≡ Refused
-  pub analysis : Analysis
-  pub text : IsAnalysisText input analysis
   pub number : ℕ
-  pub first : IsFirstMisfit analysis.flow (map signature analysis.certificates) number
+  pub first : IsFirstMisfit a.flow (map signature a.certificates) number
   pub wrote : written ≡ refusal_line (Mismatch number)
 
--- all operations fit, a certificate isn't accepted, and the number of the first and its fault are written
-pub record IsUnaccepted (status : Status) (input written : List ℕ) : Type 0 where
-  pub ended : status ≡ Rejected
-  pub analysis : Analysis
-  pub text : IsAnalysisText input analysis
-  pub fit : AllFit analysis.flow (map signature analysis.certificates)
-  pub number : ℕ
+-- the certificate with this number isn't accepted, with its first fault, and all before it are
+pub record IsFirstFault (cs : List Certificate) (number : ℕ) (fault : Fault) : Type 0 where
   pub certificate : Certificate
-  pub here : slice_get analysis.certificates number ≡ Some certificate
-  pub before : All IsAcceptable (take number analysis.certificates)
-  pub fault : Fault
+  pub here : slice_get cs number ≡ Some certificate
+  pub before : All IsProved (take number cs)
   pub has : HasFault certificate fault
+
+-- all operations fit, a certificate isn't accepted, and the number of the first and its fault are written
+pub record IsUnaccepted (a : Analysis) (status : Status) (written : List ℕ) : Type 0 where
+  pub ended : status ≡ Rejected
+  pub fit : AllFit a.flow (map signature a.certificates)
+  pub number : ℕ
+  pub fault : Fault
+  pub first : IsFirstFault a.certificates number fault
   pub wrote : written ≡ fault_line (decimal number ∷ []) fault
+
+-- what is due to certificates and a flow
+abbrev pub IsAnalysisDue : Analysis → Status → List ℕ → Type 0
+IsAnalysisDue a status written =
+    IsAnalysed a status written ⊎ (IsMismatched a status written ⊎ IsUnaccepted a status written)
 
 -- what `analyse` writes for an input, by the status behind it
 abbrev pub IsAnalyseDue : Status → List ℕ → List ℕ → Type 0
-IsAnalyseDue status input written =
-    IsAnalysed status input written
-    ⊎ (IsRefusedBy analysis_of status input written
-    ⊎ (IsMismatched status input written ⊎ IsUnaccepted status input written))
+IsAnalyseDue = IsAnswer (λ input a. analysis_of input ≡ Ok a) analysis_of IsAnalysisDue

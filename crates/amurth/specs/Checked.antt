@@ -1,29 +1,45 @@
 -- What `check` writes: that a certificate is accepted, or why it isn't.
-use Rattle.std.specs.Prelude.{◌≡◌, ℕ, ◌≤◌, List, [], ◌∷◌, codes, length, Result, Ok, Err}
-use Rattle.am_cert.specs.Checking.{IsVerdict}
-use Rattle.am_cert.specs.declared.feed.FeedEnd.{FeedEnd}
-use Rattle.am_cert.specs.declared.feed.FeedEnd.TheVariants as feed
+use Rattle.std.specs.Prelude.{◌≡◌, ℕ, ◌≤◌, ◌⊎◌, List, [], ◌∷◌, codes, length}
+use Rattle.am_cert.specs.Certificate.{Certificate}
+use Rattle.am_cert.specs.Checking.{HasFault, IsAcceptable}
+use Rattle.am_cert.specs.Texts.{Reads, certificate_of}
 use Rattle.am_cert.specs.declared.limits.TheConstants.{MOST_BYTES}
+use Rattle.am_query.specs.AcceptanceLaws.{IsRight}
+use Rattle.am_query.specs.declared.fault.Fault.{Fault}
 use Rattle.am_syntax.specs.Canonical.{line}
-use Rattle.amurth.specs.Lines.{fault_line, refusal_line}
+use Rattle.amurth.specs.Answers.{IsAnswer}
+use Rattle.amurth.specs.Lines.{fault_line}
 use Rattle.amurth.specs.Synthesised.{IsSynthesised}
 use Rattle.amurth.specs.declared.status.Status.{Status}
-use Rattle.amurth.specs.declared.status.Status.TheVariants.{Done, Refused, Rejected}
+use Rattle.amurth.specs.declared.status.Status.TheVariants.{Done, Rejected}
 
 abbrev pub accepted_text : List ℕ
 accepted_text = line (codes "accepted" ∷ [])
 
--- the status of a verdict and its line
-abbrev pub IsReport : Result (Unit {0}) FeedEnd → Status → List ℕ → Type 0
-IsReport (Ok u) status written = (status ≡ Done) × (written ≡ accepted_text)
-IsReport (Err (feed.Refused r)) status written = (status ≡ Refused) × (written ≡ refusal_line r)
-IsReport (Err (feed.Rejected f)) status written = (status ≡ Rejected) × (written ≡ fault_line [] f)
-IsReport (Err feed.NoMemory) status written = ⊥
+-- the certificate is accepted, and right: its transformer is best, or none is sound
+pub record IsProved (c : Certificate) : Type 0 where
+  pub accepted : IsAcceptable c
+  pub right : IsRight c.problem c.outcome
+
+-- the certificate is accepted and right, and that it is accepted is written
+pub record IsPassed (c : Certificate) (status : Status) (written : List ℕ) : Type 0 where
+  pub ended : status ≡ Done
+  pub proved : IsProved c
+  pub wrote : written ≡ accepted_text
+
+-- the certificate isn't accepted, and its first fault is written
+pub record IsFaulty (c : Certificate) (status : Status) (written : List ℕ) : Type 0 where
+  pub ended : status ≡ Rejected
+  pub fault : Fault
+  pub has : HasFault c fault
+  pub wrote : written ≡ fault_line [] fault
+
+-- what is due to a certificate
+abbrev pub IsJudged : Certificate → Status → List ℕ → Type 0
+IsJudged c status written = IsPassed c status written ⊎ IsFaulty c status written
 
 -- what `check` writes for an input, by the status behind it; what `synth` wrote as done, and isn't too long, is
 -- accepted
 pub record IsCheckDue (status : Status) (input written : List ℕ) : Type 0 where
-  pub verdict : Result (Unit {0}) FeedEnd
-  pub right : IsVerdict input verdict
-  pub report : IsReport verdict status written
+  pub answer : IsAnswer Reads certificate_of IsJudged status input written
   pub own : (problem : List ℕ) → IsSynthesised Done problem input → length input ≤ MOST_BYTES → status ≡ Done

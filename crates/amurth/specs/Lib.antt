@@ -1,5 +1,6 @@
 pub mod Command
 pub mod Lines
+pub mod Answers
 pub mod Synthesised
 pub mod Checked
 pub mod Listed

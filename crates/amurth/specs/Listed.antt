@@ -4,7 +4,7 @@ use Rattle.am_all.specs.AllBest.{AreAllBest}
 use Rattle.am_all.specs.Sizes.{IsSmall, IsTooGreat}
 use Rattle.am_bv.specs.declared.term.Term.{Term}
 use Rattle.am_problem.specs.Problem.{Problem}
-use Rattle.am_problem.specs.Texts.{problem_of}
+use Rattle.am_problem.specs.Texts.{Reads, problem_of}
 use Rattle.am_syntax.specs.Canonical.{lines}
 use Rattle.am_syntax.specs.Readers.{Words}
 use Rattle.am_syntax.specs.Spelling.{letter_code, term_words}
@@ -12,8 +12,8 @@ use Rattle.am_syntax.specs.declared.limits.Letter.TheVariants.{F}
 use Rattle.am_syntax.specs.declared.refusal.Refusal.{Refusal}
 use Rattle.am_tree.specs.Trees.{terms_of}
 use Rattle.am_tree.specs.declared.tree.Tree.{Tree}
+use Rattle.amurth.specs.Answers.{IsAnswer}
 use Rattle.amurth.specs.Lines.{refusal_line}
-use Rattle.amurth.specs.Synthesised.{IsProblemText, IsRefusedBy}
 use Rattle.amurth.specs.declared.status.Status.{Status}
 use Rattle.amurth.specs.declared.status.Status.TheVariants.{Done, Refused}
 
@@ -26,26 +26,25 @@ abbrev pub list_text : Problem → List (List Tree) → List ℕ
 list_text p tuples =
     lines ((codes "best" ∷ decimal (length tuples) ∷ []) ∷ map (λ ts. terms_row (terms_of p.rules p.starts ts)) tuples)
 
--- the input is the text of a small problem, and all its best tuples are written
-pub record AreListed (status : Status) (input written : List ℕ) : Type 0 where
+-- the problem is small, and all its best tuples are written
+pub record AreListed (p : Problem) (status : Status) (written : List ℕ) : Type 0 where
   pub ended : status ≡ Done
-  pub problem : Problem
-  pub text : IsProblemText input problem
-  pub small : IsSmall problem
+  pub small : IsSmall p
   pub tuples : List (List Tree)
-  pub all : AreAllBest problem tuples
-  pub wrote : written ≡ list_text problem tuples
+  pub all : AreAllBest p tuples
+  pub wrote : written ≡ list_text p tuples
 
--- the input is the text of a problem that isn't small
-pub record IsDeclined (status : Status) (input written : List ℕ) : Type 0 where
+-- the problem isn't small, and the line that says why is written
+pub record IsDeclined (p : Problem) (status : Status) (written : List ℕ) : Type 0 where
   pub ended : status ≡ Refused
-  pub problem : Problem
-  pub text : IsProblemText input problem
   pub refusal : Refusal
-  pub great : IsTooGreat problem refusal
+  pub great : IsTooGreat p refusal
   pub wrote : written ≡ refusal_line refusal
+
+-- what is due to a problem: the list, where the problem is small
+abbrev pub IsListing : Problem → Status → List ℕ → Type 0
+IsListing p status written = AreListed p status written ⊎ IsDeclined p status written
 
 -- what `list` writes for an input, by the status behind it
 abbrev pub IsListDue : Status → List ℕ → List ℕ → Type 0
-IsListDue status input written =
-    AreListed status input written ⊎ (IsRefusedBy problem_of status input written ⊎ IsDeclined status input written)
+IsListDue = IsAnswer Reads problem_of IsListing

@@ -1,8 +1,7 @@
 -- What a run writes for its input.
-use Rattle.std.specs.Prelude.{◌≡◌, ℕ, ◌⊎◌, List, [], Some, IfSome}
+use Rattle.std.specs.Prelude.{◌≡◌, ℕ, ◌⊎◌, List, [], ◌∷◌, Contains, Some, IfSome}
 use Rattle.std.specs.declared.option.Option.{Option}
-use Rattle.std.specs.Io.KnownBytes.{Appends, IsAtEnd}
-use Rattle.am_io.specs.Streams.{AppendsPrefix}
+use Rattle.std.specs.Io.KnownBytes.{IsAtEnd}
 use Rattle.amurth.specs.Analysed.{IsAnalyseDue}
 use Rattle.amurth.specs.Checked.{IsCheckDue}
 use Rattle.amurth.specs.Command.{IsCommand}
@@ -31,6 +30,23 @@ input_of Analyse left = left
 input_of ListCommand left = left
 input_of (Make n) left = Some []
 
+-- the statuses that a command may end with behind a whole text
+abbrev pub ends_of : Command → List Status
+ends_of Synth = Done ∷ Refused ∷ SpentTurns ∷ SpentConflicts ∷ []
+ends_of Check = Done ∷ Refused ∷ Rejected ∷ []
+ends_of Analyse = Done ∷ Refused ∷ Rejected ∷ []
+ends_of ListCommand = Done ∷ Refused ∷ []
+ends_of (Make n) = Done ∷ SpentTurns ∷ SpentConflicts ∷ []
+
+-- the command may end so with some input; and where its input is told, the text is due to it
+pub record IsDueTo (command : Command) (left : Option (List ℕ)) (status : Status) (written : List ℕ) : Type 0 where
+  pub possible : Contains (ends_of command) status
+  pub due : IfSome (input_of command left) (λ input. IsDue command status input written)
+
+-- a text that would have been whole with some status
+abbrev pub IsDueSomehow : Command → Option (List ℕ) → List ℕ → Type 0
+IsDueSomehow command left written = (status : Status) × IsDueTo command left status written
+
 -- a whole text was written, which tells how the work ended
 abbrev pub IsTold : Status → Type 0
 IsTold Done = Unit {0}
@@ -58,16 +74,3 @@ HasRead (Make n) left = Unit {0}
 -- the words call for a command, of which this holds
 abbrev pub Calls : List (List ℕ) → (Command → Type 0) → Type 0
 Calls words Holds = (command : Command) × IsCommand words command × Holds command
-
--- a text was written that is due to the input, where that is told
-abbrev pub Writes : (List ℕ → List ℕ → Type 0) → Option (List ℕ) → Option (List ℕ) → Option (List ℕ) → Type 0
-Writes Due input old new = (written : List ℕ) × Appends old new written × IfSome input (λ bytes. Due bytes written)
-
--- a prefix of such a text was written
-abbrev pub WritesPrefix : (List ℕ → List ℕ → Type 0) → Option (List ℕ) → Option (List ℕ) → Option (List ℕ) → Type 0
-WritesPrefix Due input old new =
-    (written : List ℕ) × AppendsPrefix old new written × IfSome input (λ bytes. Due bytes written)
-
--- a prefix of a text that would have been whole with some status
-abbrev pub IsDueSomehow : Command → List ℕ → List ℕ → Type 0
-IsDueSomehow command input written = (status : Status) × IsDue command status input written

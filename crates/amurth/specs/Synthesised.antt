@@ -1,42 +1,17 @@
 -- What `synth` writes: the certificate of a synthesis.
-use Rattle.std.specs.Prelude.{◌≡◌, ℕ, ◌+◌, ◌*◌, ◌^◌, ◌≤◌, ◌<◌, ◌⊎◌, List, Err, length, Result}
+use Rattle.std.specs.Prelude.{◌≡◌, ℕ, ◌+◌, ◌*◌, ◌^◌, ◌≤◌, List}
 use Rattle.am_cert.specs.Certificate.{Certificate}
 use Rattle.am_cert.specs.Printing.{certificate_text}
-use Rattle.am_cert.specs.declared.limits.TheConstants.{MOST_BYTES}
 use Rattle.am_cert.specs.declared.version.Version.TheVariants.{Two}
 use Rattle.am_dual.specs.Synthesis.{AreConflictsSpent, AreTurnsSpent, IsSynthesis, most_inputs}
 use Rattle.am_problem.specs.Problem.{Problem}
 use Rattle.am_problem.specs.Texts.{Reads, problem_of}
 use Rattle.am_query.specs.declared.outcome.Outcome.{Outcome}
 use Rattle.am_query.specs.declared.outcome.Outcome.TheVariants.{Absent, Best, Conflicts, Turns}
-use Rattle.am_syntax.specs.declared.refusal.Refusal.{Refusal}
-use Rattle.am_syntax.specs.declared.refusal.Refusal.TheVariants.{Long}
 use Rattle.am_tree.specs.Counts.{tuple_count}
-use Rattle.amurth.specs.Lines.{refusal_line}
+use Rattle.amurth.specs.Answers.{IsAnswer, IsAnsweredBy}
 use Rattle.amurth.specs.declared.status.Status.{Status}
-use Rattle.amurth.specs.declared.status.Status.TheVariants.{Done, Refused, SpentConflicts, SpentTurns}
-
--- ---- inputs
-
--- the input is the text of a problem, within the limits
-pub record IsProblemText (input : List ℕ) (p : Problem) : Type 0 where
-  pub short : length input ≤ MOST_BYTES
-  pub reads : Reads input p
-
--- the refusal of an input: that it is too long, or the first of its text
-abbrev pub IsRefusalBy : {A : Type 0} → (List ℕ → Result A Refusal) → List ℕ → Refusal → Type 0
-IsRefusalBy value input r =
-    ((MOST_BYTES < length input) × (r ≡ Long)) ⊎ ((length input ≤ MOST_BYTES) × (value input ≡ Err r))
-
--- the input is refused, and the line that says why is written
-pub record IsRefusedBy {A : Type 0} (value : List ℕ → Result A Refusal) (status : Status) (input written : List ℕ)
-    : Type 0 where
-  pub ended : status ≡ Refused
-  pub refusal : Refusal
-  pub first : IsRefusalBy value input refusal
-  pub wrote : written ≡ refusal_line refusal
-
--- ---- certificates
+use Rattle.amurth.specs.declared.status.Status.TheVariants.{Done, SpentConflicts, SpentTurns}
 
 -- the status of an outcome
 abbrev pub status_of : Outcome → Status
@@ -57,14 +32,16 @@ pub record HasEnded (p : Problem) (status : Status) (outcome : Outcome) : Type 0
   pub conflicts : 3 ^ most_inputs p ≤ p.conflicts → ¬ AreConflictsSpent outcome
   pub ended : status ≡ status_of outcome
 
--- the input is the text of a problem, and what is written is the certificate of its synthesis
-pub record IsSynthesised (status : Status) (input written : List ℕ) : Type 0 where
-  pub problem : Problem
-  pub text : IsProblemText input problem
+-- what is due to a problem: the certificate of its synthesis
+pub record IsCertified (p : Problem) (status : Status) (written : List ℕ) : Type 0 where
   pub outcome : Outcome
-  pub synthesis : HasEnded problem status outcome
-  pub wrote : written ≡ certificate_text (certificate problem outcome)
+  pub synthesis : HasEnded p status outcome
+  pub wrote : written ≡ certificate_text (certificate p outcome)
+
+-- the input is the text of a problem, and what is written is the certificate of its synthesis
+abbrev pub IsSynthesised : Status → List ℕ → List ℕ → Type 0
+IsSynthesised = IsAnsweredBy Reads IsCertified
 
 -- what `synth` writes for an input, by the status behind it
 abbrev pub IsSynthDue : Status → List ℕ → List ℕ → Type 0
-IsSynthDue status input written = IsSynthesised status input written ⊎ IsRefusedBy problem_of status input written
+IsSynthDue = IsAnswer Reads problem_of IsCertified

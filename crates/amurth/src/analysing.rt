@@ -1,6 +1,6 @@
 //! The table of a flow over certified operations.
 
-ghost use Rattle.std.specs.Prelude.{◌≡◌, ◌<◌, ◌≤◌, ◌^◌, ℕ, All, IfErr, IfOk, List, OnOk, length, map, true};
+ghost use Rattle.std.specs.Prelude.{◌≡◌, ◌<◌, ◌≤◌, ◌^◌, All, IfErr, IfOk, OnOk, length, map, true};
 ghost use Rattle.am_cert.specs.Certificate.{IsCertificate};
 ghost use Rattle.am_cert.specs.declared.limits.TheConstants.{MOST_BYTES};
 ghost use Rattle.am_flow.specs.Flows.{AllFit, IsFlow};
@@ -8,8 +8,9 @@ ghost use Rattle.am_flow.specs.Runs.{CoversRuns};
 ghost use Rattle.am_flow.specs.States.{IsTable, State};
 ghost use Rattle.am_flow.specs.Stored.{seen_operation, seen_operations};
 ghost use Rattle.am_flow.specs.Texts.{table_text};
-ghost use Rattle.amurth.specs.Analysed.{IsAnalyseDue, IsAnalysisText, is_best, operation, signature};
-ghost use Rattle.amurth.specs.inside.Analyses.{IsFailureAmong, IsFailureAt, IsProved, seen_analysis};
+ghost use Rattle.amurth.specs.Analysed.{IsAnalyseDue, IsAnalysisDue, is_best, operation, signature};
+ghost use Rattle.amurth.specs.Checked.{IsProved};
+ghost use Rattle.amurth.specs.inside.Analyses.{IsFailureAmong, IsFailureAt, seen_analysis};
 ghost use Rattle.amurth.specs.declared.limits.TheConstants.{MOST_CERTIFICATES};
 
 use crate::inputs::{Analysis, read_analysis};
@@ -49,8 +50,7 @@ pub fn analysed(alloc: Global, input: &[u8]) -> Result<Response, AllocError>
 fn matched(alloc: Global, analysis: &Analysis) -> Result<Response, AllocError>
     requires flow { IsFlow (length analysis.now.certificates.items) analysis.now.flow }
     requires few { length analysis.now.certificates.items ≤ MOST_CERTIFICATES }
-    ensures { IfOk result (λ r. (input : List ℕ) → IsAnalysisText input (seen_analysis analysis.now) →
-        IsAnalyseDue r.status input r.text.items) }
+    ensures { IfOk result (λ r. IsAnalysisDue (seen_analysis analysis.now) r.status r.text.items) }
 {
     let signatures = signatures(alloc, analysis.certificates.as_slice())?;
     match analysis.flow.matches(signatures.as_slice()) {
@@ -64,8 +64,7 @@ fn accepted(alloc: Global, analysis: &Analysis) -> Result<Response, AllocError>
     requires flow { IsFlow (length analysis.now.certificates.items) analysis.now.flow }
     requires few { length analysis.now.certificates.items ≤ MOST_CERTIFICATES }
     requires fit { AllFit analysis.now.flow (map signature analysis.now.certificates.items) }
-    ensures { IfOk result (λ r. (input : List ℕ) → IsAnalysisText input (seen_analysis analysis.now) →
-        IsAnalyseDue r.status input r.text.items) }
+    ensures { IfOk result (λ r. IsAnalysisDue (seen_analysis analysis.now) r.status r.text.items) }
 {
     let certificates = analysis.certificates.as_slice();
     match check_all(alloc, certificates) {

@@ -1,89 +1,64 @@
 //! What a command makes of an input.
 
-ghost use Rattle.std.specs.Prelude.{◌≡◌, ℕ, ◌-◌, ◌<◌, ◌≤◌, ◌^◌, IfOk, length};
+ghost use Rattle.std.specs.Prelude.{◌≡◌, ◌≢◌, ℕ, ◌+◌, ◌-◌, ◌<◌, ◌≤◌, ◌^◌, IfOk, OnOk};
 ghost use Rattle.am_cert.specs.declared.limits.TheConstants.{MOST_BYTES};
+ghost use Rattle.am_io.specs.Streams.{LosesAtMost};
+ghost use Rattle.am_syntax.specs.declared.refusal.Refusal.TheVariants.{Long};
 ghost use Rattle.amurth.specs.Command.{IsNumbered};
-ghost use Rattle.amurth.specs.Run.{IsDue};
-ghost use Rattle.amurth.specs.declared.command.Command.TheVariants.{Check, Make};
-ghost use Rattle.amurth.specs.inside.Answered.{AnswersText, IsAnswered};
+ghost use Rattle.amurth.specs.Lines.{refusal_line};
+ghost use Rattle.amurth.specs.Run.{HasRead, IsDueTo};
+ghost use Rattle.amurth.specs.declared.command.Command.TheVariants.{Make};
+ghost use Rattle.amurth.specs.declared.status.Status.TheVariants.{Refused};
 
 use crate::analysing::analysed;
 use crate::checking::checked;
 use crate::command::Command;
-use crate::feeding::feed_from;
 use crate::listing::listed;
 use crate::making::made;
-use crate::response::{Response, Unanswered};
+use crate::response::Response;
 use crate::synthesising::synthesised;
 use am_cert::MOST_BYTES;
 use am_io::{ReadEnd, Source, read_all};
-use am_syntax::Refusal;
-use std::alloc::{AllocError, Global};
+use std::alloc::Global;
 
 /// The response of a command to an input.
 ///
 /// # Errors
 ///
 /// - `ReadFault`: the source failed.
+/// - `Long`: the source gave one byte more than an input may have.
 /// - `NoMemory`: there was no memory.
 pub fn answer<R: Source>(
     alloc: Global,
     command: Command,
     input: &mut R,
-) -> Result<Response, Unanswered>
+) -> Result<Response, ReadEnd>
     requires source { R.faults input.old < 2 ^ 64 - 1 }
     requires numbered { IsNumbered command }
-    ensures answered { IsAnswered command result (R.left input.old) (R.left input.new)
-        (R.faults input.old) (R.faults input.new) }
+
+    // A response comes behind an input that was read to its end, and is due to it.
+    ensures due { IfOk result (λ r. IsDueTo command (R.left input.old) r.status r.text.items) }
+    ensures end { OnOk result (HasRead command (R.left input.new)) }
     ensures made { (n : ℕ) → command ≡ Make n → input.new ≡ input.old }
+
+    // What is due to an input that is too long depends on nothing else.
+    ensures long { result ≡ Err ReadEnd.Long →
+        IsDueTo command (R.left input.old) Refused (refusal_line Long) }
+
+    // The count of faults rose exactly where the answer is `ReadFault`.
+    ensures fault { result ≡ Err ReadEnd.ReadFault → R.faults input.old < R.faults input.new }
+    ensures kept { result ≢ Err ReadEnd.ReadFault → R.faults input.new ≡ R.faults input.old }
+
+    ensures lost { LosesAtMost (R.left input.old) (R.left input.new) (MOST_BYTES + 1) }
+    ensures not_long { result ≢ Err ReadEnd.Long →
+        LosesAtMost (R.left input.old) (R.left input.new) MOST_BYTES }
+    ensures calls { R.calls input.new ≤ R.calls input.old + MOST_BYTES + 1 }
 {
     match command {
+        Command::Synth => Ok(synthesised(alloc, &read_all(alloc, input, MOST_BYTES)?)?),
+        Command::Check => Ok(checked(alloc, &read_all(alloc, input, MOST_BYTES)?)?),
+        Command::Analyse => Ok(analysed(alloc, &read_all(alloc, input, MOST_BYTES)?)?),
+        Command::List => Ok(listed(alloc, &read_all(alloc, input, MOST_BYTES)?)?),
         Command::Make(number) => Ok(made(alloc, number)?),
-        Command::Check => answer_pieces(alloc, input),
-        Command::Synth | Command::Analyse | Command::List => answer_text(alloc, command, input),
-    }
-}
-
-/// The response to a certificate that is fed piece by piece.
-fn answer_pieces<R: Source>(alloc: Global, input: &mut R) -> Result<Response, Unanswered>
-    requires { R.faults input.old < 2 ^ 64 - 1 }
-    ensures { IsAnswered Check result (R.left input.old) (R.left input.new)
-        (R.faults input.old) (R.faults input.new) }
-{
-    let feed = feed_from(alloc, input)?;
-    let response = checked(alloc, feed)?;
-    Ok(response)
-}
-
-/// The response to a text that is read whole.
-fn answer_text<R: Source>(
-    alloc: Global,
-    command: Command,
-    input: &mut R,
-) -> Result<Response, Unanswered>
-    requires source { R.faults input.old < 2 ^ 64 - 1 }
-    requires text { AnswersText command }
-    ensures { IsAnswered command result (R.left input.old) (R.left input.new)
-        (R.faults input.old) (R.faults input.new) }
-{
-    match read_all(alloc, input, MOST_BYTES) {
-        Ok(text) => Ok(text_answer(alloc, command, &text)?),
-        Err(ReadEnd::Long) => Ok(Response::refused(alloc, Refusal::Long)?),
-        Err(ReadEnd::ReadFault) => Err(Unanswered::ReadFault),
-        Err(ReadEnd::NoMemory) => Err(Unanswered::NoMemory),
-    }
-}
-
-/// The response to a text.
-fn text_answer(alloc: Global, command: Command, text: &[u8]) -> Result<Response, AllocError>
-    requires short { length text.now ≤ MOST_BYTES }
-    requires text { AnswersText command }
-    ensures { IfOk result (λ r. IsDue command r.status text.now r.text.items) }
-{
-    match command {
-        Command::Synth => synthesised(alloc, text),
-        Command::Analyse => analysed(alloc, text),
-        Command::List => listed(alloc, text),
-        Command::Check | Command::Make(_) => unreachable!(),
     }
 }

@@ -1,33 +1,43 @@
-//! The verdict on a certificate that was fed.
+//! The verdict on a certificate.
 
-ghost use Rattle.std.specs.Prelude.{◌≡◌, IfOk, List, ℕ};
-ghost use Rattle.am_text.specs.Gathered.{Holds};
-ghost use Rattle.amurth.specs.Checked.{IsCheckDue, accepted_text};
+ghost use Rattle.std.specs.Prelude.{◌≡◌, ◌≤◌, IfOk, length};
+ghost use Rattle.am_cert.specs.declared.limits.TheConstants.{MOST_BYTES};
+ghost use Rattle.amurth.specs.Checked.{IsCheckDue, IsJudged, accepted_text};
 
 use crate::lines::fault_line;
 use crate::response::Response;
 use crate::status::Status;
-use am_cert::{Feed, FeedEnd};
-use am_syntax::print_line;
+use am_cert::{Certificate, CheckFail, check, read_certificate};
+use am_syntax::{ReadError, print_line};
 use am_text::Writer;
 use std::alloc::{AllocError, Global};
 
-/// The response of `check` to the stream that was fed.
-pub fn checked(alloc: Global, feed: Feed) -> Result<Response, AllocError>
-    ensures { (stream : List ℕ) → Holds feed stream →
-        IfOk result (λ r. IsCheckDue r.status stream r.text.items) }
+/// The response of `check` to a text.
+pub fn checked(alloc: Global, input: &[u8]) -> Result<Response, AllocError>
+    requires { length input.now ≤ MOST_BYTES }
+    ensures { IfOk result (λ r. IsCheckDue r.status input.now r.text.items) }
 {
-    match feed.end(alloc) {
+    match read_certificate(alloc, input) {
+        Ok(certificate) => judged(alloc, &certificate),
+        Err(ReadError::Refused(refusal)) => Response::refused(alloc, refusal),
+        Err(ReadError::NoMemory) => Err(AllocError),
+    }
+}
+
+/// The response to a certificate.
+fn judged(alloc: Global, certificate: &Certificate) -> Result<Response, AllocError>
+    ensures { IfOk result (λ r. IsJudged certificate.now r.status r.text.items) }
+{
+    match check(alloc, certificate) {
         Ok(()) => Ok(Response {
             text: accepted_text(alloc)?,
             status: Status::Done,
         }),
-        Err(FeedEnd::Refused(refusal)) => Response::refused(alloc, refusal),
-        Err(FeedEnd::Rejected(fault)) => Ok(Response {
+        Err(CheckFail::Rejected(fault)) => Ok(Response {
             text: fault_line(alloc, &[], fault)?,
             status: Status::Rejected,
         }),
-        Err(FeedEnd::NoMemory) => Err(AllocError),
+        Err(CheckFail::NoMemory) => Err(AllocError),
     }
 }
 

@@ -4,6 +4,7 @@ ghost use Rattle.std.specs.Prelude.{◌≡◌, [], ◌∷◌, ◌++◌, IfOk, Is
 ghost use Rattle.am_syntax.specs.Canonical.{line};
 ghost use Rattle.am_query.specs.declared.fault.Fault.TheVariants.{BadChain, Unfinished};
 ghost use Rattle.am_syntax.specs.Lines.{is_apart};
+ghost use Rattle.am_syntax.specs.declared.refusal.Refusal.TheVariants.{Long};
 ghost use Rattle.amurth.specs.Lines.{fault_line, refusal_line, refused, why_word};
 
 use am_cert::MOST_BYTES;
@@ -32,6 +33,13 @@ pub fn refusal_line(alloc: Global, refusal: Refusal) -> Result<Vec<u8>, AllocErr
         Refusal::Wide(n) => refused(alloc, b"Wide", n),
         Refusal::Many(n) => refused(alloc, b"Many", n),
     }
+}
+
+/// The line of the refusal of an input that is too long, which takes no memory.
+pub fn long_line() -> &'static [u8]
+    ensures { result.now ≡ refusal_line Long }
+{
+    b"refused Long 67108864\n"
 }
 
 /// The word `refused`, a name and a number.

@@ -1,6 +1,6 @@
 //! All best transformers of a small problem.
 
-ghost use Rattle.std.specs.Prelude.{◌≡◌, ◌≤◌, ◌++◌, ℕ, All, IfOk, List, OnOk, length, map};
+ghost use Rattle.std.specs.Prelude.{◌≡◌, ◌≤◌, ◌++◌, All, IfOk, List, OnOk, length, map};
 ghost use Rattle.am_all.specs.AllBest.{AreAllBest};
 ghost use Rattle.am_all.specs.Sizes.{IsSmall};
 ghost use Rattle.am_cert.specs.declared.limits.TheConstants.{MOST_BYTES};
@@ -8,8 +8,7 @@ ghost use Rattle.am_syntax.specs.Canonical.{line, lines};
 ghost use Rattle.am_syntax.specs.Spelling.{FitsSomewhere};
 ghost use Rattle.am_tree.specs.Trees.{AreTrees, terms_of};
 ghost use Rattle.am_tree.specs.declared.tree.Tree.{Tree};
-ghost use Rattle.amurth.specs.Listed.{IsListDue, list_text, terms_row};
-ghost use Rattle.amurth.specs.Synthesised.{IsProblemText};
+ghost use Rattle.amurth.specs.Listed.{IsListDue, IsListing, list_text, terms_row};
 
 use crate::response::Response;
 use crate::status::Status;
@@ -33,10 +32,9 @@ pub fn listed(alloc: Global, input: &[u8]) -> Result<Response, AllocError>
     }
 }
 
-/// The response to the text of a problem.
+/// The response to a problem.
 fn best_listed(alloc: Global, problem: &Problem) -> Result<Response, AllocError>
-    ensures { IfOk result (λ r. (input : List ℕ) → IsProblemText input problem.now →
-        IsListDue r.status input r.text.items) }
+    ensures { IfOk result (λ r. IsListing problem.now r.status r.text.items) }
 {
     match small(problem) {
         Ok(()) => Ok(Response {

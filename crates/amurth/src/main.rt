@@ -15,7 +15,6 @@ mod analysing;
 mod answering;
 mod checking;
 mod command;
-mod feeding;
 mod inputs;
 mod limits;
 mod lines;

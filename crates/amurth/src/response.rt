@@ -6,7 +6,6 @@ ghost use Rattle.amurth.specs.declared.status.Status.TheVariants.{Refused};
 
 use crate::lines::refusal_line;
 use crate::status::Status;
-use am_io::Failed;
 use am_syntax::Refusal;
 use std::alloc::{AllocError, Global};
 
@@ -26,36 +25,5 @@ impl Response {
             text: refusal_line(alloc, refusal)?,
             status: Status::Refused,
         })
-    }
-}
-
-/// Why there is no response.
-#[derive(Clone, Copy, PartialEq, Eq, Debug)]
-pub enum Unanswered {
-    /// The source failed.
-    ReadFault,
-    /// There was no memory.
-    NoMemory,
-}
-
-impl From<Failed> for Unanswered {
-    ghost use Rattle.std.specs.Prelude.{◌≡◌};
-    ghost use Rattle.amurth.specs.declared.response.Unanswered.TheVariants.{ReadFault};
-
-    ghost from_gives = { λ _ e. e ≡ ReadFault };
-
-    fn from(_failed: Failed) -> Unanswered {
-        Unanswered::ReadFault
-    }
-}
-
-impl From<AllocError> for Unanswered {
-    ghost use Rattle.std.specs.Prelude.{◌≡◌};
-    ghost use Rattle.amurth.specs.declared.response.Unanswered.TheVariants.{NoMemory};
-
-    ghost from_gives = { λ _ e. e ≡ NoMemory };
-
-    fn from(_error: AllocError) -> Unanswered {
-        Unanswered::NoMemory
     }
 }

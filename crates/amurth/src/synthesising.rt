@@ -1,10 +1,10 @@
 //! The certificate of the synthesis of a problem.
 
-ghost use Rattle.std.specs.Prelude.{◌≡◌, ◌≤◌, ℕ, IfOk, List, length};
+ghost use Rattle.std.specs.Prelude.{◌≡◌, ◌≤◌, IfOk, length};
 ghost use Rattle.am_cert.specs.Printing.{certificate_text};
 ghost use Rattle.am_cert.specs.declared.limits.TheConstants.{MOST_BYTES};
 ghost use Rattle.am_dual.specs.Synthesis.{IsSynthesis};
-ghost use Rattle.amurth.specs.Synthesised.{IsProblemText, IsSynthDue, certificate, status_of};
+ghost use Rattle.amurth.specs.Synthesised.{IsCertified, IsSynthDue, certificate, status_of};
 
 use crate::response::Response;
 use crate::status::Status;
@@ -28,10 +28,9 @@ pub fn synthesised(alloc: Global, input: &[u8]) -> Result<Response, AllocError>
     }
 }
 
-/// The response to the text of a problem.
+/// The response to a problem.
 fn certified(alloc: Global, problem: Problem) -> Result<Response, AllocError>
-    ensures { IfOk result (λ r. (input : List ℕ) → IsProblemText input problem →
-        IsSynthDue r.status input r.text.items) }
+    ensures { IfOk result (λ r. IsCertified problem r.status r.text.items) }
 {
     let outcome = synthesise(alloc, &problem)?;
     let status = status_of(&outcome);

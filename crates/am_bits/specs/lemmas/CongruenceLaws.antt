@@ -12,12 +12,13 @@ use Rattle.am_bv.specs.Words.{complement}
 use Rattle.am_domain.specs.Tuple.{IsTuple}
 use Rattle.am_domain.specs.Meaning.{IsAbstract}
 use Rattle.am_domain.specs.Laws.{HasMembers, HasTop, HoldsWords, JoinsAbove, Descends, Tidies, TellsValidity}
-use Rattle.am_domain.specs.Laws.{TellsMembership}
+use Rattle.am_domain.specs.Laws.{TellsMembership, KeepsLaws}
 use Rattle.am_bits.specs.lemmas.Bits.{bit_cases, set_bits, same_bits, bit_at-without, below_power, fewer_ones}
 use Rattle.am_bits.specs.lemmas.Masks.{mask_by_next, kept_by_mask, within_mask, low-within, low-mask}
 use Rattle.am_domain.proofs.Laws.{pair-IsTuple, by_two, by_three}
 use Rattle.am_bv.proofs.Laws.{val-unary, val-binary}
 use Rattle.am_bits.specs.lemmas.Terms.{equality-tells, equalities-tell, iff-trans}
+use Rattle.am_bits.specs.Congruences.{all_congruences}
 use Rattle.am_bits.specs.Congruences.{congruences, mask, residue, IsMask, IsCongruence, IsCongruent, low, agreed}
 use Rattle.am_bits.specs.Congruences.{modulo, congruence_top, congruence_of_word, congruence_join, congruence_tidy}
 use Rattle.am_bits.specs.Congruences.{congruence_rank, congruence_valid_term, congruence_member_term}
@@ -38,16 +39,16 @@ low_bit x = (set_bits x (low x)).0 (low-within x)
 residue_bit : (m r i : ℕ) → bit_at m i ≡ 1 → bit_at r i ≡ bit_at (bit_and r m) i
 residue_bit m r i h = omega (arith, bit_at_and r m i, bit_at-lt r i)
 
-pub has_members : HasMembers congruences (λ w. residue)
+has_members : HasMembers all_congruences
 has_members w width a abstract = (abstract.tuple.words 1, λ i h. refl)
 
-pub has_top : HasTop congruences (λ w. congruence_top)
+has_top : HasTop all_congruences
 has_top w width = (
   value w 0 0 (pow_pos w) (0, omega arith, omega arith) (omega arith),
   λ c below i h. absurd (omega (arith, h, bit_at-zero i)),
 )
 
-pub holds_words : HoldsWords congruences congruence_of_word
+holds_words : HoldsWords all_congruences
 holds_words w width c below = (
   value w (2 ^ w - 1) c (omega (arith, pow_pos w)) (w, omega arith, omega (arith, pow_pos w)) (omega arith),
   λ i h. refl,
@@ -93,7 +94,7 @@ module _ (w : ℕ) (a b : List ℕ) (first : IsAbstract congruences w a) (second
       let part : bit_and (mask a) (low (agreed w a b)) ≡ low (agreed w a b) = (set_bits (mask a) (low (agreed w a b))).1 (λ i h. (agrees i h).in_first) in
       omega (arith, fewer_ones (mask a) (low (agreed w a b)) (λ e. changed (unchanged (sym part ∙ e))), ap count_ones part)
 
-pub joins_above : JoinsAbove congruences congruence_join
+joins_above : JoinsAbove all_congruences
 joins_above w width a b first second =
     let m = low (agreed w a b) in
     record {
@@ -102,13 +103,13 @@ joins_above w width a b first second =
       second = λ c below h i k. let e = agrees w a b first second i k in h i e.in_second ∙ sym e.same ∙ residue_bit m (residue a) i k;
     }
 
-pub descends : Descends congruences congruence_join (λ w. congruence_rank)
+descends : Descends all_congruences
 descends = record {
   most = λ w width a abstract. omega (arith, ones-le w (mask a) (abstract.tuple.words 0), below_power w);
   falls = λ w width a b first second changed. fewer_known w a b first second changed;
 }
 
-pub tidies : Tidies congruences (λ w. congruence_tidy)
+tidies : Tidies all_congruences
 tidies w width raw tuple = (
   low_value w (mask raw) (residue raw) (tuple.words 0),
   λ c below h i k. h i (low_bit (mask raw) i k) ∙ residue_bit (low (mask raw)) (residue raw) i k,
@@ -123,7 +124,7 @@ congruence_by_tests w m r h k =
       λ valid. (masks.1 valid.masked, (within_mask w r m valid.masked k h).1 valid.within),
     )
 
-pub tells_validity : TellsValidity congruences (λ w. congruence_valid_term)
+tells_validity : TellsValidity all_congruences
 tells_validity w width =
     let zero_word : nat_lt 0 (2 ^ w) ≡ true = lt-ltb 0 (2 ^ w) (pow_pos w) in
     let one_word : nat_lt 1 (2 ^ w) ≡ true = lt-ltb 1 (2 ^ w) (one_is_word w width.0) in
@@ -139,7 +140,7 @@ tells_validity w width =
           env tuple.counted tuple;
     }
 
-pub tells_membership : TellsMembership congruences (λ w. congruence_member_term)
+tells_membership : TellsMembership all_congruences
 tells_membership w width =
     let zero_word : nat_lt 0 (2 ^ w) ≡ true = lt-ltb 0 (2 ^ w) (pow_pos w) in
     record {
@@ -167,3 +168,18 @@ congruent-remainder w a c valid = (
     remainder =
         let e : mask a ≡ 2 ^ valid.masked.0 - 1 = omega (arith, valid.masked.2) in
         ap (λ n. c % n) valid.masked.2 ∙ sym (ap (bit_and c) e ∙ and_mask c valid.masked.0)
+
+-- all laws of a domain hold
+pub congruence_laws : KeepsLaws all_congruences
+congruence_laws = record {
+  has_fields = lit≤ tt;
+  few_fields = lit≤ tt;
+  has_members = has_members;
+  has_top = has_top;
+  holds_words = holds_words;
+  joins_above = joins_above;
+  descends = descends;
+  tidies = tidies;
+  tells_validity = tells_validity;
+  tells_membership = tells_membership;
+}

@@ -14,12 +14,13 @@ use Rattle.am_bv.specs.Words.{complement}
 use Rattle.am_domain.specs.Tuple.{IsTuple}
 use Rattle.am_domain.specs.Meaning.{IsAbstract}
 use Rattle.am_domain.specs.Laws.{HasMembers, HasTop, HoldsWords, JoinsAbove, Descends, Tidies, TellsValidity}
-use Rattle.am_domain.specs.Laws.{TellsMembership}
+use Rattle.am_domain.specs.Laws.{TellsMembership, KeepsLaws}
 use Rattle.am_bits.specs.lemmas.Bits.{bit_cases, disjoint_bits, clear_bits, set_bits, bit_at-complement, below_power}
 use Rattle.am_bits.specs.lemmas.Bits.{kept_or_fewer}
 use Rattle.am_domain.proofs.Laws.{pair-IsTuple, by_two, by_three}
 use Rattle.am_bv.proofs.Laws.{val-binary}
 use Rattle.am_bits.specs.lemmas.Terms.{equality-tells, equalities-tell, iff-trans}
+use Rattle.am_bits.specs.KnownBits.{all_known_bits}
 use Rattle.am_bits.specs.KnownBits.{known_bits, zeros, ones, IsKnown, HasKnown, known_top, known_of_word, known_join}
 use Rattle.am_bits.specs.KnownBits.{known_tidy, known_rank, known_valid_term, known_member_term}
 
@@ -34,7 +35,7 @@ known_by_tests a c = (
   λ h. ((clear_bits c (zeros a)).1 h.clear, (set_bits c (ones a)).1 h.set),
 )
 
-pub has_members : HasMembers known_bits (λ w. ones)
+has_members : HasMembers all_known_bits
 has_members w width a abstract = (
   abstract.tuple.words 1,
   record {
@@ -43,7 +44,7 @@ has_members w width a abstract = (
   },
 )
 
-pub has_top : HasTop known_bits (λ w. known_top)
+has_top : HasTop all_known_bits
 has_top w width = (
   value w 0 0 (pow_pos w) (pow_pos w) (λ i both. omega (arith, both.0, bit_at-zero i)),
   λ c below. record { clear = λ i h. absurd (omega (arith, h, bit_at-zero i)); set = λ i h. absurd (omega (arith, h, bit_at-zero i)) },
@@ -57,13 +58,13 @@ apart w c i h z =
       | inr above ↦ bit_at_above c w i h above
     ]
 
-pub holds_words : HoldsWords known_bits known_of_word
+holds_words : HoldsWords all_known_bits
 holds_words w width c below = (
   value w (complement w c) c (omega (arith, pow_pos w)) below (λ i both. omega (arith, apart w c i below both.0, both.1)),
   record { clear = λ i z. apart w c i below z; set = λ i o. o },
 )
 
-pub joins_above : JoinsAbove known_bits (λ w. known_join)
+joins_above : JoinsAbove all_known_bits
 joins_above w width a b first second =
     let z : (i : ℕ) → bit_at (bit_and (zeros a) (zeros b)) i ≡ 1 → (bit_at (zeros a) i ≡ 1) × (bit_at (zeros b) i ≡ 1) = λ i. in_both (zeros a) (zeros b) i in
     let o : (i : ℕ) → bit_at (bit_and (ones a) (ones b)) i ≡ 1 → (bit_at (ones a) i ≡ 1) × (bit_at (ones b) i ≡ 1) = λ i. in_both (ones a) (ones b) i in
@@ -77,7 +78,7 @@ joins_above w width a b first second =
     in_both : (m n i : ℕ) → bit_at (bit_and m n) i ≡ 1 → (bit_at m i ≡ 1) × (bit_at n i ≡ 1)
     in_both m n i h = (omega (arith, h, bit_at_and m n i, bit_at-lt m i), omega (arith, h, bit_at_and m n i, bit_at-lt n i))
 
-pub descends : Descends known_bits (λ w. known_join) (λ w. known_rank)
+descends : Descends all_known_bits
 descends = record {
   most = λ w width a abstract. omega (arith, ones-le w (zeros a) (abstract.tuple.words 0), ones-le w (ones a) (abstract.tuple.words 1), below_power w);
   falls = λ w width a b first second changed.
@@ -102,10 +103,10 @@ tidied w raw tuple true e = (record { tuple = tuple; valid = (disjoint_bits (zer
 tidied w raw tuple false e = λ c below h.
     eqb-false _ _ e ((disjoint_bits (zeros raw) (ones raw)).1 (λ i both. omega (arith, h.clear i both.0, h.set i both.1)))
 
-pub tidies : Tidies known_bits (λ w. known_tidy)
+tidies : Tidies all_known_bits
 tidies w width raw tuple = tidied w raw tuple (bit_and (zeros raw) (ones raw) == 0) refl
 
-pub tells_validity : TellsValidity known_bits (λ w. known_valid_term)
+tells_validity : TellsValidity all_known_bits
 tells_validity w width =
     let zero_word : nat_lt 0 (2 ^ w) ≡ true = lt-ltb 0 (2 ^ w) (pow_pos w) in
     record {
@@ -116,7 +117,7 @@ tells_validity w width =
           env tuple.counted;
     }
 
-pub tells_membership : TellsMembership known_bits (λ w. known_member_term)
+tells_membership : TellsMembership all_known_bits
 tells_membership w width =
     let zero_word : nat_lt 0 (2 ^ w) ≡ true = lt-ltb 0 (2 ^ w) (pow_pos w) in
     record {
@@ -126,3 +127,18 @@ tells_membership w width =
           (λ z o c. simp (val-binary, val-Const, val-Field) (iff-trans (equalities-tell (bit_and c z) 0 (bit_and c o) o) (known_by_tests (z ∷ o ∷ []) c)))
           env tuple.counted;
     }
+
+-- all laws of a domain hold
+pub known_laws : KeepsLaws all_known_bits
+known_laws = record {
+  has_fields = lit≤ tt;
+  few_fields = lit≤ tt;
+  has_members = has_members;
+  has_top = has_top;
+  holds_words = holds_words;
+  joins_above = joins_above;
+  descends = descends;
+  tidies = tidies;
+  tells_validity = tells_validity;
+  tells_membership = tells_membership;
+}

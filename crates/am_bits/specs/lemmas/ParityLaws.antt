@@ -15,12 +15,13 @@ use Rattle.am_bv.specs.Terms.{val}
 use Rattle.am_bv.specs.Operators.{lshr_of}
 use Rattle.am_domain.specs.Meaning.{IsAbstract}
 use Rattle.am_domain.specs.Laws.{HasMembers, HasTop, HoldsWords, JoinsAbove, Descends, Tidies, TellsValidity}
-use Rattle.am_domain.specs.Laws.{TellsMembership}
+use Rattle.am_domain.specs.Laws.{TellsMembership, KeepsLaws}
 use Rattle.am_bits.specs.lemmas.Bits.{bit_cases, bits_of_zero, more_ones}
 use Rattle.am_bits.specs.lemmas.Bits.{four_words}
 use Rattle.am_domain.proofs.Laws.{single-IsTuple, by_one, by_two}
 use Rattle.am_bv.proofs.Laws.{val-binary}
 use Rattle.am_bits.specs.lemmas.Terms.{orders-tell}
+use Rattle.am_bits.specs.Parities.{all_parities}
 use Rattle.am_bits.specs.Parities.{parities, IsParity, HasParity, parity_top, parity_of_word, parity_some_member}
 use Rattle.am_bits.specs.Parities.{parity_join, parity_tidy, parity_rank, parity_valid_term, parity_member_term}
 
@@ -36,7 +37,7 @@ by_parity P one two three (suc (suc (suc (suc p)))) least most = absurd (omega a
 value : (w p : ℕ) → 2 ≤ w → 1 ≤ p → p ≤ 3 → IsAbstract parities w (p ∷ [])
 value w p width least most = record { tuple = single-IsTuple w p (omega (arith, four_words w width)); valid = (least, most) }
 
-pub has_members : HasMembers parities (λ w. parity_some_member)
+has_members : HasMembers all_parities
 has_members w width a abstract =
     let zero_word = pow_pos w in
     by_parity (λ p. let c : ℕ = cond (bit_at p 0 == 1) 0 1 in (c < 2 ^ w) × (bit_at p (c % 2) ≡ 1))
@@ -48,13 +49,13 @@ of_bit w zero width h = (value w 1 width (lit≤ tt) (lit≤ tt), refl)
 of_bit w (suc zero) width h = (value w 2 width (lit≤ tt) (lit≤ tt), refl)
 of_bit w (suc (suc d)) width h = absurd (omega arith)
 
-pub has_top : HasTop parities (λ w. parity_top)
+has_top : HasTop all_parities
 has_top w width = (value w 3 width.0 (lit≤ tt) (lit≤ tt), λ c below. bit_at_ones 2 (c % 2) (omega arith))
 
-pub holds_words : HoldsWords parities (λ w. parity_of_word)
+holds_words : HoldsWords all_parities
 holds_words w width c below = of_bit w (c % 2) width.0 (omega arith)
 
-pub joins_above : JoinsAbove parities (λ w. parity_join)
+joins_above : JoinsAbove all_parities
 joins_above w width a b first second =
     let p = slice_index a 0 in
     let q = slice_index b 0 in
@@ -66,7 +67,7 @@ joins_above w width a b first second =
       second = λ c below h. omega (arith, h, bit_at_or p q (c % 2), bit_at-lt p (c % 2));
     }
 
-pub descends : Descends parities (λ w. parity_join) (λ w. parity_rank)
+descends : Descends all_parities
 descends = record {
   most = λ w width a abstract. omega (arith, four_words w width.0);
   falls = λ w width a b first second apart.
@@ -88,10 +89,10 @@ tidied w r width h false e = (
   λ c below member. omega (arith, member, bit_at_and r 3 (c % 2), bit_at_ones 2 (c % 2) (omega arith)),
 )
 
-pub tidies : Tidies parities (λ w. parity_tidy)
+tidies : Tidies all_parities
 tidies w width raw tuple = tidied w (slice_index raw 0) width.0 (tuple.words 0) (bit_and (slice_index raw 0) 3 == 0) refl
 
-pub tells_validity : TellsValidity parities (λ w. parity_valid_term)
+tells_validity : TellsValidity all_parities
 tells_validity w width =
     let one : nat_lt 1 (2 ^ w) ≡ true = lt-ltb 1 (2 ^ w) (omega (arith, four_words w width.0)) in
     let three : nat_lt 3 (2 ^ w) ≡ true = lt-ltb 3 (2 ^ w) (omega (arith, four_words w width.0)) in
@@ -109,7 +110,7 @@ bit_read w p c width =
     let within : nat_lt (c % 2) w ≡ true = lt-ltb (c % 2) w (omega arith) in
     ap (λ k. bit_and (lshr_of w p k) 1) (and_mask c 1) ∙ ap (λ t. bit_and (cond t (p / 2 ^ (c % 2)) 0) 1) within ∙ shr_and_one p (c % 2)
 
-pub tells_membership : TellsMembership parities (λ w. parity_member_term)
+tells_membership : TellsMembership all_parities
 tells_membership w width =
     let one : nat_lt 1 (2 ^ w) ≡ true = lt-ltb 1 (2 ^ w) (omega (arith, four_words w width.0)) in
     record {
@@ -122,3 +123,18 @@ tells_membership w width =
           (λ h. elim (bit_cases p (c % 2)) [ inl f ↦ absurd (h (e ∙ f)) | inr f ↦ f ], λ h zero. omega (arith, sym e ∙ zero, h))
           ) env tuple.counted;
     }
+
+-- all laws of a domain hold
+pub parity_laws : KeepsLaws all_parities
+parity_laws = record {
+  has_fields = lit≤ tt;
+  few_fields = lit≤ tt;
+  has_members = has_members;
+  has_top = has_top;
+  holds_words = holds_words;
+  joins_above = joins_above;
+  descends = descends;
+  tidies = tidies;
+  tells_validity = tells_validity;
+  tells_membership = tells_membership;
+}

@@ -1,5 +1,5 @@
 -- A synthesis between two turns, and what one turn leads to.
-use Rattle.std.specs.Prelude.{ℕ, ◌≡◌, ◌+◌, ◌-◌, ◌^◌, ◌≤◌, List, [], length}
+use Rattle.std.specs.Prelude.{ℕ, ◌≡◌, ◌+◌, ◌-◌, ◌^◌, ◌≤◌, ◌⊎◌, List, [], ◌∷◌, ◌++◌, length}
 use Rattle.am_chain.specs.declared.chain.Chain.{Chain}
 use Rattle.am_domain.specs.Examples.{NoneSatisfies}
 use Rattle.am_problem.specs.Examples.{positives_of}
@@ -7,6 +7,7 @@ use Rattle.am_problem.specs.Problem.{Problem, question_of}
 use Rattle.am_query.specs.Answers.{IsRefuted}
 use Rattle.am_query.specs.Turns.{IsCandidate, after_trace}
 use Rattle.am_query.specs.declared.outcome.Outcome.{Outcome}
+use Rattle.am_query.specs.declared.outcome.Outcome.TheVariants.{Absent, Best, Conflicts, Turns}
 use Rattle.am_query.specs.declared.query.Query.TheVariants.{Fit}
 use Rattle.am_query.specs.declared.turn.Turn.{Turn}
 use Rattle.am_dual.specs.Synthesis.{AreConflictsSpent, IsSynthesis, IsTraceWithin, most_inputs}
@@ -31,10 +32,36 @@ pub record IsEnd (p : Problem) (o : Outcome) : Type 0 where
   pub right : IsSynthesis p o
   pub enough : 3 ^ most_inputs p ≤ p.conflicts → ¬ AreConflictsSpent o
 
--- after so many turns there may be another one, or this is the end
-abbrev pub IsNext : Problem → ℕ → Next → Type 0
-IsNext p made (NextTurn s) = IsUnderway p p.turns s × (length s.trace ≡ made)
-IsNext p made (End o) = IsEnd p o
+-- the turns of an outcome
+abbrev pub trace_of : Outcome → List Turn
+trace_of (Best t trace sound_log best_log) = trace
+trace_of (Absent trace log) = trace
+trace_of (Turns trace) = trace
+trace_of (Conflicts trace asked log) = trace
+
+-- the turns that were made
+abbrev pub trace_so_far : Next → List Turn
+trace_so_far (NextTurn s) = s.trace
+trace_so_far (End o) = trace_of o
+
+-- one list of turns is the other, with more after it
+abbrev pub GoesOn : List Turn → List Turn → Type 0
+GoesOn before after = (more : List Turn) × (after ≡ before ++ more)
+
+-- there may be another turn, or this is the end
+abbrev pub IsRight : Problem → Next → Type 0
+IsRight p (NextTurn s) = IsUnderway p p.turns s
+IsRight p (End o) = IsEnd p o
+
+-- a synthesis that has made no turn
+pub record IsBegun (p : Problem) (next : Next) : Type 0 where
+  pub right : IsRight p next
+  pub none : trace_so_far next ≡ []
+
+-- After these turns there is one more, and there may be another; or this is the end, with these turns, or with one more.
+abbrev pub IsNext : Problem → List Turn → Next → Type 0
+IsNext p trace (NextTurn s) = IsUnderway p p.turns s × ((t : Turn) × (s.trace ≡ trace ++ t ∷ []))
+IsNext p trace (End o) = IsEnd p o × ((trace_of o ≡ trace) ⊎ ((t : Turn) × (trace_of o ≡ trace ++ t ∷ [])))
 
 -- how many turns there may still be, with the one that shows that they are spent
 abbrev pub turns_left : Problem → Next → ℕ

@@ -3,11 +3,12 @@ use Rattle.std.proofs.Common.{◌≡◌, ◌≢◌, ℕ, ◌-◌, ◌^◌, ◌<�
 use Rattle.std.proofs.Common.{◌∷◌, length, Bool, Some, None, if◌then◌else◌, MatchOption}
 use Rattle.std.proofs.lemmas.Int.{ints}
 use Rattle.am_bv.specs.Words.{IsWidth}
+use Rattle.am_bv.specs.declared.op.Op.{Op}
 use Rattle.am_domain.specs.Meaning.{IsAbstract}
 use Rattle.am_domain.specs.Laws.{HasMembers, HasTop, HoldsWords, JoinsAbove, Descends, Tidies}
 use Rattle.am_domain.proofs.Laws.{pair-IsTuple}
-use Rattle.am_interval.specs.Intervals.{Reading, least, greatest, IsBetween, intervals, point, hull, words_outside}
-use Rattle.am_interval.specs.Intervals.{tidied}
+use Rattle.am_interval.specs.Intervals.{Reading, least, greatest, IsBetween, intervals, hull, words_outside}
+use Rattle.am_interval.specs.Domains.{interval_domain}
 use Rattle.am_interval.specs.lemmas.Numbers.{IsTop, fewer_outside, lesser-IsLesser, greater-IsGreater}
 
 -- a tuple of two words is the list of its ends
@@ -20,14 +21,14 @@ pair-ends (c ∷ d ∷ x ∷ a) e = absurd (omega (arith, e))
 le-refl : (x : ℤ) → x ≤ℤ x
 le-refl x = omega (arith, ints)
 
-module _ (number : Reading) where
-  pub has_members : HasMembers (intervals number) (λ w. least)
+module _ (number : Reading) (top : ℕ → List ℕ) (at_most : Op) where
+  pub has_members : HasMembers (interval_domain number top at_most)
   has_members w width a h = (h.tuple.words 0, (le-refl _, h.valid))
 
-  pub holds_words : HoldsWords (intervals number) (λ w. point)
+  pub holds_words : HoldsWords (interval_domain number top at_most)
   holds_words w width c h = (record { tuple = pair-IsTuple w c c h h; valid = le-refl _ }, (le-refl _, le-refl _))
 
-  pub joins_above : JoinsAbove (intervals number) (hull number)
+  pub joins_above : JoinsAbove (interval_domain number top at_most)
   joins_above w width a b ha hb =
       let low = lesser-IsLesser number w (least a) (least b) in
       let high = greater-IsGreater number w (greatest a) (greatest b) in
@@ -40,7 +41,7 @@ module _ (number : Reading) where
         second = λ c below between. (omega (arith, ints, low.second, between.0), omega (arith, ints, high.second, between.1));
       }
 
-  pub tidies : Tidies (intervals number) (tidied number)
+  pub tidies : Tidies (interval_domain number top at_most)
   tidies w width raw h = go (int_le (number w (least raw)) (number w (greatest raw))) refl
     where
       go : (b : Bool) → int_le (number w (least raw)) (number w (greatest raw)) ≡ b →
@@ -49,8 +50,8 @@ module _ (number : Reading) where
       go true e = (record { tuple = h; valid = grind (arith, ints, e) }, λ c below between. between)
       go false e = λ c below between. grind (arith, ints, e, between.0, between.1)
 
-module _ (number : Reading) (top : ℕ → List ℕ) (is_top : (w : ℕ) → IsWidth w → IsTop number w (top w)) where
-  pub has_top : HasTop (intervals number) top
+module _ (number : Reading) (top : ℕ → List ℕ) (at_most : Op) (is_top : (w : ℕ) → IsWidth w → IsTop number w (top w)) where
+  pub has_top : HasTop (interval_domain number top at_most)
   has_top w width =
       let t = is_top w width in
       (record { tuple = t.tuple; valid = t.above _ (t.tuple.words 1) }, λ c below. (t.above c below, t.below c below))
@@ -60,7 +61,7 @@ module _ (number : Reading) (top : ℕ → List ℕ) (is_top : (w : ℕ) → IsW
       hull number w a b ≢ a → words_outside number w (hull number w a b) < words_outside number w a
   falls w width a b ha hb changed =
       let t = is_top w width in
-      let joined = (joins_above number w width a b ha hb).value.tuple in
+      let joined = (joins_above number top at_most w width a b ha hb).value.tuple in
       let low = lesser-IsLesser number w (least a) (least b) in
       let high = greater-IsGreater number w (greatest a) (greatest b) in
       let fewer = fewer_outside (2 ^ w - 1) (number w (least (top w))) (number w (greatest (top w))) _ _ _ _
@@ -70,5 +71,5 @@ module _ (number : Reading) (top : ℕ → List ℕ) (is_top : (w : ℕ) → IsW
         | inr h ↦ elim high.strict [ inl k ↦ fewer (inr k) | inr k ↦ absurd (changed (rw (h, k) (pair-ends a ha.tuple.counted))) ]
       ]
 
-  pub descends : Descends (intervals number) (hull number) (words_outside number)
+  pub descends : Descends (interval_domain number top at_most)
   descends = record { most = λ w width a h. omega arith; falls = falls }

@@ -11,8 +11,8 @@ use Rattle.am_bv.specs.declared.op.Op.TheVariants.{And, Sle, Ule}
 use Rattle.am_bv.specs.declared.term.Term.TheVariants.{Field}
 use Rattle.am_bv.proofs.Laws.{laws, val-Node, val-Field}
 use Rattle.am_domain.specs.Laws.{TellsValidity, TellsMembership}
-use Rattle.am_interval.specs.Intervals.{intervals, Reading, unsigned}
-use Rattle.am_interval.specs.Terms.{order_term, between_term}
+use Rattle.am_interval.specs.Intervals.{Reading, unsigned}
+use Rattle.am_interval.specs.Domains.{interval_domain}
 
 -- an operator that tells whether a word is at most another
 pub record IsAtMost (number : Reading) (op : Op) : Type 0 where
@@ -26,20 +26,20 @@ at_most-tells x y = grind (arith, ints)
 both-tell : (x y z u : ℤ) → (bit_and (one_if (int_le x y)) (one_if (int_le z u)) ≢ 0) ↔ ((x ≤ℤ y) × (z ≤ℤ u))
 both-tell x y z u = grind (arith, ints)
 
-module _ (number : Reading) (op : Op) (at_most : IsAtMost number op) where
+module _ (number : Reading) (top : ℕ → List ℕ) (op : Op) (at_most : IsAtMost number op) where
   val-order : (w i j : ℕ) (env : List ℕ) → val w (binary op (Field i) (Field j)) env ≡ one_if (int_le (number w (slice_index env i)) (number w (slice_index env j)))
   val-order w i j env =
       val-Node w op (Field i ∷ Field j ∷ []) env ∙ at_most.tells w (val w (Field i) env ∷ val w (Field j) env ∷ [])
       ∙ rw (val-Field w i env, val-Field w j env) refl
 
-  pub tells_validity : TellsValidity (intervals number) (λ w. order_term op)
+  pub tells_validity : TellsValidity (interval_domain number top op)
   tells_validity w width = record {
     fit = simp (laws, at_most.arguments) refl;
     small = simp laws (lit≤ tt);
     tells = λ env tuple. rw (val-order w 0 1 env) (at_most-tells _ _);
   }
 
-  pub tells_membership : TellsMembership (intervals number) (λ w. between_term op)
+  pub tells_membership : TellsMembership (interval_domain number top op)
   tells_membership w width = record {
     fit = simp (laws, at_most.arguments) refl;
     small = simp laws (lit≤ tt);

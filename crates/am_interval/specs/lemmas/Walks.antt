@@ -1,12 +1,14 @@
 -- Intervals are walks from their least to their greatest word.
 use Rattle.std.proofs.Common.{◌≡◌, ℕ, ◌+◌, ◌^◌, ◌<◌, ◌≤◌, ◌⊎◌, inl, inr, ◌↔◌, refl, arith, ℤ, pos, ◌+ℤ◌, ◌≤ℤ◌, ◌<ℤ◌}
-use Rattle.std.proofs.Common.{Bool, true, false, int_lt, if◌then◌else◌}
+use Rattle.std.proofs.Common.{Bool, true, false, int_lt, if◌then◌else◌, List}
 use Rattle.std.proofs.lemmas.Int.{ints}
 use Rattle.am_bv.specs.Words.{IsWidth, signed}
+use Rattle.am_bv.specs.declared.op.Op.{Op}
 use Rattle.am_domain.specs.Walk.{steps}
 use Rattle.am_domain.specs.AnchoredLaws.{HasStart, HasPoints, KeepsStart, WalksMembers, HasParts}
-use Rattle.am_domain.proofs.Laws.{Contains-walk, steps-cases, steps-word}
-use Rattle.am_interval.specs.Intervals.{Reading, unsigned, least, greatest, intervals, point, hull}
+use Rattle.am_domain.proofs.Laws.{Contains-walk, part-IsPart, steps-cases, steps-word}
+use Rattle.am_interval.specs.Intervals.{Reading, unsigned, least, greatest}
+use Rattle.am_interval.specs.Domains.{interval_domain}
 use Rattle.am_interval.specs.lemmas.Laws.{has_members}
 use Rattle.am_interval.specs.lemmas.Numbers.{signed_cases}
 
@@ -24,9 +26,6 @@ unsigned-IsModular w c d width hc hd = grind (arith, ints, steps-cases w c d hc 
 pub signed-IsModular : IsModular signed
 signed-IsModular w c d width hc hd = grind (arith, ints, steps-cases w c d hc hd, signed_cases w c, signed_cases w d)
 
-pub has_points : HasPoints (λ w. point)
-has_points w c h = refl
-
 -- a number is between two others where no more steps lead to it than to the second
 between-steps : (p s t u : ℕ) (x y z : ℤ) → u < p → x ≤ℤ z → Leads p s x y → Leads p t x z → Leads p u y z →
     ((x ≤ℤ y) × (y ≤ℤ z)) ↔ (s ≤ t)
@@ -39,15 +38,18 @@ either : (b : Bool) (c d : ℕ) → ((if b then d else c) ≡ c) ⊎ ((if b then
 either true c d = inr refl
 either false c d = inl refl
 
-module _ (number : Reading) where
-  pub has_start : HasStart (intervals number)
-  has_start w width a h = (has_members number w width a h).1
+module _ (number : Reading) (top : ℕ → List ℕ) (at_most : Op) where
+  pub has_start : HasStart (interval_domain number top at_most)
+  has_start w width a h = (has_members number top at_most w width a h).1
 
-  pub keeps_start : KeepsStart (intervals number) (hull number)
+  pub has_points : HasPoints (interval_domain number top at_most)
+  has_points w c h = refl
+
+  pub keeps_start : KeepsStart (interval_domain number top at_most)
   keeps_start w width a b ha hb = either (int_lt (number w (least b)) (number w (least a))) (least a) (least b)
 
-module _ (number : Reading) (modular : IsModular number) where
-  pub walks_members : WalksMembers (intervals number)
+module _ (number : Reading) (top : ℕ → List ℕ) (at_most : Op) (modular : IsModular number) where
+  pub walks_members : WalksMembers (interval_domain number top at_most)
   walks_members w width a h c below =
       let first = h.tuple.words 0 in
       let last = h.tuple.words 1 in
@@ -56,7 +58,8 @@ module _ (number : Reading) (modular : IsModular number) where
       (modular w (least a) c width first below) (modular w (least a) (greatest a) width first last) (modular w c (greatest a) width below last) in
       (λ member. among.1 (between.0 member), λ found. between.1 (among.0 found))
 
-  pub has_parts : HasParts (intervals number)
-  has_parts w width a h c d hc hd in_c in_d order =
+  pub has_parts : HasParts (interval_domain number top at_most)
+  has_parts w width a h c e hc he in_c in_e order =
       let first = h.tuple.words 0 in
-      in_order (2 ^ w) _ _ _ _ _ in_c.0 in_d.0 order (modular w (least a) c width first hc) (modular w (least a) d width first hd)
+      part-IsPart (interval_domain number top at_most) refl walks_members w width a h c e hc he order
+      (in_order (2 ^ w) _ _ _ _ _ in_c.0 in_e.0 order (modular w (least a) c width first hc) (modular w (least a) e width first he))

@@ -1,14 +1,14 @@
 -- The common words of two parts, and the join of their values.
 use Rattle.std.proofs.Common.{◌≡◌, ℕ, zero, suc, ◌^◌, ◌<◌, ◌≤◌, Bool, true, false, cond, List, [], ◌∷◌, length, get_or}
-use Rattle.std.proofs.Common.{refl, sym, ap, ◌∙◌, arith}
+use Rattle.std.proofs.Common.{refl, sym, ap, ◌∙◌, arith, IsTrue, ◌↔◌}
 use Rattle.std.specs.Prelude.{All, AllPairs, Contains, filter, fold}
 use Rattle.std.proofs.lemmas.List.Elements.{All-cons, All-contains, All-filter, All-contains_itself, filter_passes}
 use Rattle.am_bv.specs.Words.{IsWidth}
-use Rattle.am_bv.specs.declared.term.Term.{Term}
+use Rattle.am_domain.specs.Abstraction.{Abstraction}
 use Rattle.am_domain.specs.Meaning.{Meaning, IsAbstract}
 use Rattle.am_domain.specs.Walk.{walk}
-use Rattle.am_domain.specs.Laws.{HoldsWords, JoinsAbove, TellsMembership, is_member}
-use Rattle.am_domain.specs.AnchoredLaws.{WalksMembers}
+use Rattle.am_domain.specs.Laws.{KeepsLaws, is_member}
+use Rattle.am_domain.specs.AnchoredLaws.{IsAnchored}
 use Rattle.am_domain.proofs.Laws.{is_member-tells}
 use Rattle.am_pair.specs.Pairs.{common, last_of, join_of_words}
 use Rattle.am_pair.specs.Theorems.{CommonAreMembersOfBoth}
@@ -48,53 +48,55 @@ pub last-contains : (c : ℕ) (words : List ℕ) → Contains (c ∷ words) (las
 last-contains c [] = (zero, omega arith, refl)
 last-contains c (d ∷ words) = let rest = last-contains d words in (suc rest.0, omega (arith, rest.1), rest.2)
 
--- The join of the values of words.
-module _ (b : Meaning) (of_word : ℕ → ℕ → List ℕ) (join : ℕ → List ℕ → List ℕ → List ℕ) (holds : HoldsWords b of_word) (above : JoinsAbove b join)
-    (w : ℕ) (width : IsWidth w) where
-  -- a value of which all these words are members
-  pub record HasWords (v : List ℕ) (words : List ℕ) : Type 0 where
-    pub value : IsAbstract b w v
-    pub all : All (λ d. b.Member w v d) words
+-- a value of which all these words are members
+pub record HasWords (m : Meaning) (w : ℕ) (v : List ℕ) (words : List ℕ) : Type 0 where
+  pub value : IsAbstract m w v
+  pub all : All (λ d. m.Member w v d) words
 
+-- The join of the values of words.
+module _ {b : Abstraction} (laws : KeepsLaws b) (w : ℕ) (width : IsWidth w) where
   -- joining further words to a value keeps its members and adds the words
-  joined : (v : List ℕ) (words : List ℕ) → IsAbstract b w v → All (λ d. d < 2 ^ w) words →
-      let all = fold (λ v d. join w v (of_word w d)) v words in
-      HasWords all words × ((e : ℕ) → e < 2 ^ w → b.Member w v e → b.Member w all e)
+  joined : (v : List ℕ) (words : List ℕ) → IsAbstract b.meaning w v → All (λ d. d < 2 ^ w) words →
+      let all = fold (λ v d. b.join w v (b.of_word w d)) v words in
+      HasWords b.meaning w all words × ((e : ℕ) → e < 2 ^ w → b.meaning.Member w v e → b.meaning.Member w all e)
   joined v [] hv below = (record { value = hv; all = λ i d h. absurd (omega arith) }, λ e h m. m)
   joined v (d ∷ words) hv below =
-      let word = holds w width d (below 0 d (omega arith)) in
-      let step = above w width v (of_word w d) hv word.0 in
-      let rest = joined (join w v (of_word w d)) words step.value (λ i e h. below (suc i) e (omega arith)) in (
+      let word = laws.holds_words w width d (below 0 d (omega arith)) in
+      let step = laws.joins_above w width v (b.of_word w d) hv word.0 in
+      let rest = joined (b.join w v (b.of_word w d)) words step.value (λ i e h. below (suc i) e (omega arith)) in
+      let all = fold (λ v d. b.join w v (b.of_word w d)) (b.join w v (b.of_word w d)) words in (
         record {
           value = rest.0.value;
-          all = All-cons (λ e. b.Member w (fold (λ v d. join w v (of_word w d)) (join w v (of_word w d)) words) e) d words
+          all = All-cons (λ e. b.meaning.Member w all e) d words
               (rest.1 d (below 0 d (omega arith)) (step.second d (below 0 d (omega arith)) word.1)) rest.0.all;
         },
         λ e h m. rest.1 e h (step.first e h m),
       )
 
   -- the join of the values of words has the words
-  pub join-has : (c : ℕ) (words : List ℕ) → All (λ d. d < 2 ^ w) (c ∷ words) → HasWords (join_of_words of_word join w c words) (c ∷ words)
+  pub join-has : (c : ℕ) (words : List ℕ) → All (λ d. d < 2 ^ w) (c ∷ words) →
+      HasWords b.meaning w (join_of_words b w c words) (c ∷ words)
   join-has c words below =
-      let word = holds w width c (below 0 c (omega arith)) in
-      let rest = joined (of_word w c) words word.0 (λ i e h. below (suc i) e (omega arith)) in
+      let word = laws.holds_words w width c (below 0 c (omega arith)) in
+      let rest = joined (b.of_word w c) words word.0 (λ i e h. below (suc i) e (omega arith)) in
       record {
         value = rest.0.value;
-        all = All-cons (λ e. b.Member w (join_of_words of_word join w c words) e) c words (rest.1 c (below 0 c (omega arith)) word.1) rest.0.all;
+        all = All-cons (λ e. b.meaning.Member w (join_of_words b w c words) e) c words (rest.1 c (below 0 c (omega arith)) word.1) rest.0.all;
       }
 
 -- the common words of two values are the members of both
-pub common-members : (a b : Meaning) (two : a.fields ≡ 2) (member_term : ℕ → Term) → WalksMembers a → TellsMembership b member_term →
-    CommonAreMembersOfBoth a b member_term
-common-members a b two member_term walks tells w width x y hx hy c below = (
+pub common-members : {a b : Abstraction} → IsAnchored a → KeepsLaws b → CommonAreMembersOfBoth a b
+common-members {a} {b} walks laws w width x y hx hy c below = (
   λ found. (
-    (walks w width x hx c below).1 (All-contains (Contains (walk w x)) (common w (member_term w) x y) c
+    (walks.walks_members w width x hx c below).1 (All-contains (Contains (walk w x)) (common b w x y) c
         (All-filter test (Contains (walk w x)) (walk w x) (All-contains_itself (walk w x))) found),
-    (is_member-tells b member_term tells w width y hy.tuple c below).0
-        (All-contains (λ d. test d ≡ true) (common w (member_term w) x y) c (filter_passes test (walk w x)) found),
+    tells.0 (All-contains (λ d. test d ≡ true) (common b w x y) c (filter_passes test (walk w x)) found),
   ),
-  λ both. Contains-filter test (walk w x) c ((walks w width x hx c below).0 both.0) ((is_member-tells b member_term tells w width y hy.tuple c below).1 both.1),
+  λ both. Contains-filter test (walk w x) c ((walks.walks_members w width x hx c below).0 both.0) (tells.1 both.1),
 )
   where
     test : ℕ → Bool
-    test = is_member w (member_term w) y
+    test = is_member w (b.member_term w) y
+
+    tells : IsTrue (is_member w (b.member_term w) y c) ↔ b.meaning.Member w y c
+    tells = is_member-tells b laws.tells_membership w width y hy.tuple c below

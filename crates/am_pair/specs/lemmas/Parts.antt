@@ -1,7 +1,10 @@
 -- The parts of a pair.
 use Rattle.std.proofs.Common.{◌≡◌, ℕ, suc, ◌+◌, ◌≤◌, List, [], ◌∷◌, ◌++◌, length, slice_index, subst, sym, refl, arith}
 use Rattle.am_domain.specs.Tuple.{IsTuple}
-use Rattle.am_domain.specs.Meaning.{Meaning, IsAbstract}
+use Rattle.am_domain.specs.Abstraction.{Abstraction}
+use Rattle.am_domain.specs.AnchoredLaws.{IsAnchored}
+use Rattle.am_domain.specs.Laws.{KeepsLaws}
+use Rattle.am_domain.specs.Meaning.{IsAbstract}
 use Rattle.am_domain.proofs.Laws.{by_two, AreWords-nil, AreWords-cons}
 use Rattle.am_pair.specs.Pairs.{first, second, pairs}
 
@@ -47,65 +50,76 @@ made w count x y hx hy = by_two (λ x. IsTuple w 2 x → HasMade w count x y)
     })
     x hx.counted hx
 
--- The parts of values of a pair, for a first domain that has two fields.
-module _ (a b : Meaning) (two : a.fields ≡ 2) where
-  -- two words are a tuple of the first domain, and the other way round
-  pub as_first : (w : ℕ) (x : List ℕ) → IsTuple w 2 x → IsTuple w a.fields x
-  as_first w x h = subst (λ n. IsTuple w n x) (sym two) h
+-- what is known of the domains of a pair
+pub record ArePaired (a b : Abstraction) : Type 0 where
+  pub walks : IsAnchored a
+  pub first : KeepsLaws a
+  pub second : KeepsLaws b
+  pub few : b.meaning.fields ≤ 2
 
-  pub of_first : (w : ℕ) (x : List ℕ) → IsTuple w a.fields x → IsTuple w 2 x
-  of_first w x h = subst (λ n. IsTuple w n x) two h
+-- the same from its parts
+pub paired : {a b : Abstraction} → IsAnchored a → KeepsLaws a → KeepsLaws b → b.meaning.fields ≤ 2 → ArePaired a b
+paired walks first second few = record { walks = walks; first = first; second = second; few = few }
+
+-- The parts of values of a pair.
+module _ {a b : Abstraction} (laws : ArePaired a b) where
+  -- two words are a tuple of the first domain, and the other way round
+  pub as_first : (w : ℕ) (x : List ℕ) → IsTuple w 2 x → IsTuple w a.meaning.fields x
+  as_first w x h = subst (λ n. IsTuple w n x) (sym laws.walks.has_two_fields) h
+
+  pub of_first : (w : ℕ) (x : List ℕ) → IsTuple w a.meaning.fields x → IsTuple w 2 x
+  of_first w x h = subst (λ n. IsTuple w n x) laws.walks.has_two_fields h
 
   -- what is known of the parts of a value of a pair
   pub record HasValues (w : ℕ) (p : List ℕ) : Type 0 where
-    pub known : AreParts w b.fields p
-    pub front : IsAbstract a w (first p)
-    pub back : IsAbstract b w (second p)
-    pub meets : b.Member w (second p) (slice_index (first p) 0)
+    pub known : AreParts w b.meaning.fields p
+    pub front : IsAbstract a.meaning w (first p)
+    pub back : IsAbstract b.meaning w (second p)
+    pub meets : b.meaning.Member w (second p) (slice_index (first p) 0)
 
   -- the parts of a value of a pair
-  pub values : (w : ℕ) (p : List ℕ) → IsAbstract (pairs a b) w p → HasValues w p
+  pub values : (w : ℕ) (p : List ℕ) → IsAbstract (pairs a.meaning b.meaning) w p → HasValues w p
   values w p h =
-      let known = parts w b.fields p h.tuple in
+      let known = parts w b.meaning.fields p h.tuple in
       record {
         known = known;
         front = record { tuple = as_first w (first p) known.front; valid = h.valid.0 };
         back = record { tuple = known.back; valid = h.valid.1 };
-        meets = subst (b.Member w (second p)) (sym known.start) h.valid.2;
+        meets = subst (b.meaning.Member w (second p)) (sym known.start) h.valid.2;
       }
 
   -- values of both that meet are a value of the pair
-  pub value : (w : ℕ) (x y : List ℕ) → IsAbstract a w x → IsAbstract b w y → b.Member w y (slice_index x 0) → IsAbstract (pairs a b) w (x ++ y)
+  pub value : (w : ℕ) (x y : List ℕ) → IsAbstract a.meaning w x → IsAbstract b.meaning w y → b.meaning.Member w y (slice_index x 0) → IsAbstract (pairs a.meaning b.meaning) w (x ++ y)
   value w x y hx hy meets =
-      let known = made w b.fields x y (of_first w x hx.tuple) hy.tuple in
+      let known = made w b.meaning.fields x y (of_first w x hx.tuple) hy.tuple in
       record {
         tuple = known.tuple;
         valid = (
-          subst (a.Valid w) (sym known.front) hx.valid,
-          subst (b.Valid w) (sym known.back) hy.valid,
-          subst (λ z. b.Member w z (slice_index (x ++ y) 0)) (sym known.back) (subst (b.Member w y) (sym known.start) meets),
+          subst (a.meaning.Valid w) (sym known.front) hx.valid,
+          subst (b.meaning.Valid w) (sym known.back) hy.valid,
+          subst (λ z. b.meaning.Member w z (slice_index (x ++ y) 0)) (sym known.back) (subst (b.meaning.Member w y) (sym known.start) meets),
         );
       }
 
   -- the members of what is put together are those of both
-  pub member : (w : ℕ) (x y : List ℕ) (c : ℕ) → IsTuple w 2 x → IsTuple w b.fields y → a.Member w x c → b.Member w y c → (pairs a b).Member w (x ++ y) c
+  pub member : (w : ℕ) (x y : List ℕ) (c : ℕ) → IsTuple w 2 x → IsTuple w b.meaning.fields y → a.meaning.Member w x c → b.meaning.Member w y c → (pairs a.meaning b.meaning).Member w (x ++ y) c
   member w x y c hx hy in_x in_y =
-      let known = made w b.fields x y hx hy in
-      (subst (λ z. a.Member w z c) (sym known.front) in_x, subst (λ z. b.Member w z c) (sym known.back) in_y)
+      let known = made w b.meaning.fields x y hx hy in
+      (subst (λ z. a.meaning.Member w z c) (sym known.front) in_x, subst (λ z. b.meaning.Member w z c) (sym known.back) in_y)
 
   -- the parts as they are taken out of a tuple, and of a value
-  pub front-IsTuple : (w : ℕ) (p x : List ℕ) → x ≡ first p → IsTuple w (2 + b.fields) p → IsTuple w a.fields x
-  front-IsTuple w p x e h = subst (IsTuple w a.fields) (sym e) (as_first w (first p) (parts w b.fields p h).front)
+  pub front-IsTuple : (w : ℕ) (p x : List ℕ) → x ≡ first p → IsTuple w (2 + b.meaning.fields) p → IsTuple w a.meaning.fields x
+  front-IsTuple w p x e h = subst (IsTuple w a.meaning.fields) (sym e) (as_first w (first p) (parts w b.meaning.fields p h).front)
 
-  pub back-IsTuple : (w : ℕ) (p y : List ℕ) → y ≡ second p → IsTuple w (2 + b.fields) p → IsTuple w b.fields y
-  back-IsTuple w p y e h = subst (IsTuple w b.fields) (sym e) (parts w b.fields p h).back
+  pub back-IsTuple : (w : ℕ) (p y : List ℕ) → y ≡ second p → IsTuple w (2 + b.meaning.fields) p → IsTuple w b.meaning.fields y
+  back-IsTuple w p y e h = subst (IsTuple w b.meaning.fields) (sym e) (parts w b.meaning.fields p h).back
 
-  pub front-IsAbstract : (w : ℕ) (p x : List ℕ) → x ≡ first p → IsAbstract (pairs a b) w p → IsAbstract a w x
-  front-IsAbstract w p x e h = subst (IsAbstract a w) (sym e) (values w p h).front
+  pub front-IsAbstract : (w : ℕ) (p x : List ℕ) → x ≡ first p → IsAbstract (pairs a.meaning b.meaning) w p → IsAbstract a.meaning w x
+  front-IsAbstract w p x e h = subst (IsAbstract a.meaning w) (sym e) (values w p h).front
 
-  pub back-IsAbstract : (w : ℕ) (p y : List ℕ) → y ≡ second p → IsAbstract (pairs a b) w p → IsAbstract b w y
-  back-IsAbstract w p y e h = subst (IsAbstract b w) (sym e) (values w p h).back
+  pub back-IsAbstract : (w : ℕ) (p y : List ℕ) → y ≡ second p → IsAbstract (pairs a.meaning b.meaning) w p → IsAbstract b.meaning w y
+  back-IsAbstract w p y e h = subst (IsAbstract b.meaning w) (sym e) (values w p h).back
 
   -- at most four words
-  pub few_words : (w : ℕ) (x y : List ℕ) → b.fields ≤ 2 → IsTuple w a.fields x → IsTuple w b.fields y → length x + length y ≤ 4
-  few_words w x y few hx hy = omega (arith, hx.counted, hy.counted, two)
+  pub few_words : (w : ℕ) (x y : List ℕ) → IsTuple w a.meaning.fields x → IsTuple w b.meaning.fields y → length x + length y ≤ 4
+  few_words w x y hx hy = omega (arith, hx.counted, hy.counted, laws.walks.has_two_fields, laws.few)

@@ -18,11 +18,11 @@ use Rattle.am_bv.specs.declared.term.Term.{Term}
 use Rattle.am_bv.proofs.Laws.{val-Const, val-ternary, val-same, val-rename, fits-Const, fits-Node, fits-more}
 use Rattle.am_bv.proofs.Laws.{fits-rename, nodes-Const, nodes-Node, nodes-rename}
 use Rattle.am_domain.specs.Tuple.{IsTuple}
-use Rattle.am_domain.specs.Meaning.{Meaning}
-use Rattle.am_domain.specs.Laws.{IsIndicator, TellsValidity, TellsMembership}
+use Rattle.am_domain.specs.Abstraction.{Abstraction}
+use Rattle.am_domain.specs.Laws.{IsIndicator, KeepsLaws}
 use Rattle.am_domain.proofs.Laws.{pair-IsTuple, is_member-tells}
 use Rattle.am_pair.specs.Pairs.{pairs, second_fields, pair_valid_term, pair_member_term}
-use Rattle.am_pair.specs.lemmas.Parts.{by_more_than_two, as_first}
+use Rattle.am_pair.specs.lemmas.Parts.{ArePaired, by_more_than_two, as_first}
 
 -- the words at consecutive places
 map-range : (xs : List ℕ) (i n : ℕ) → i + n ≤ length xs → map (slice_index xs) (range_with_len i n) ≡ take n (drop i xs)
@@ -61,12 +61,12 @@ nonzero : (n : ℕ) → IsTrue (not (n == 0)) ↔ (n ≢ 0)
 nonzero n = grind (arith, nat_tests)
 
 -- the term for membership isn't 0 at a tuple and a member
-member_term-tells : (m : Meaning) (member_term : ℕ → Term) → TellsMembership m member_term →
-    (w : ℕ) → IsWidth w → (a : List ℕ) → IsTuple w m.fields a → (c : ℕ) → c < 2 ^ w →
-    (val w (member_term w) (a ++ c ∷ []) ≢ 0) ↔ m.Member w a c
-member_term-tells m member_term law w width a tuple c below =
-    let tells = is_member-tells m member_term law w width a tuple c below in
-    let test = nonzero (val w (member_term w) (a ++ c ∷ [])) in
+member_term-tells : {d : Abstraction} → KeepsLaws d →
+    (w : ℕ) → IsWidth w → (a : List ℕ) → IsTuple w d.meaning.fields a → (c : ℕ) → c < 2 ^ w →
+    (val w (d.member_term w) (a ++ c ∷ []) ≢ 0) ↔ d.meaning.Member w a c
+member_term-tells {d} laws w width a tuple c below =
+    let tells = is_member-tells d laws.tells_membership w width a tuple c below in
+    let test = nonzero (val w (d.member_term w) (a ++ c ∷ [])) in
     (λ h. tells.0 (test.1 h), λ h. test.0 (tells.1 h))
 
 first_two : (x y : ℕ) (rest : List ℕ) (i : ℕ) → i < 2 → slice_index (x ∷ y ∷ rest) i ≡ slice_index (x ∷ y ∷ []) i
@@ -74,164 +74,159 @@ first_two x y rest zero h = refl
 first_two x y rest (suc zero) h = refl
 first_two x y rest (suc (suc i)) h = absurd (omega arith)
 
-module _ (a b : Meaning) (two : a.fields ≡ 2) (some : 1 ≤ b.fields) (w : ℕ) (width : IsWidth w) where
+module _ {a b : Abstraction} (laws : ArePaired a b) (w : ℕ) (width : IsWidth w) where
   zero_word : nat_lt 0 (2 ^ w) ≡ true
   zero_word = lt-ltb 0 (2 ^ w) (pow_pos w)
 
-  module _ (valid_a valid_b member_b : ℕ → Term) (tells_a : TellsValidity a valid_a) (tells_b : TellsValidity b valid_b) (tells : TellsMembership b member_b) where
-    abbrev k : ℕ
-    k = b.fields
+  abbrev k : ℕ
+  k = b.meaning.fields
 
-    fit_a : IsTrue (fits w 2 (valid_a w))
-    fit_a = subst (λ n. IsTrue (fits w n (valid_a w))) two (tells_a w width).fit
+  fit_a : IsTrue (fits w 2 (a.valid_term w))
+  fit_a = subst (λ n. IsTrue (fits w n (a.valid_term w))) laws.walks.has_two_fields (laws.first.tells_validity w width).fit
 
-    fit_b : IsTrue (fits w (length (range_with_len 2 k)) (valid_b w))
-    fit_b = subst (λ n. IsTrue (fits w n (valid_b w))) (sym (length-range_with_len 2 k)) (tells_b w width).fit
+  fit_b : IsTrue (fits w (length (range_with_len 2 k)) (b.valid_term w))
+  fit_b = subst (λ n. IsTrue (fits w n (b.valid_term w))) (sym (length-range_with_len 2 k)) (laws.second.tells_validity w width).fit
 
-    fit_member : IsTrue (fits w (length (second_fields k 0)) (member_b w))
-    fit_member = subst (λ n. IsTrue (fits w n (member_b w))) (sym (length-second_fields k 0)) (tells w width).fit
+  fit_member : IsTrue (fits w (length (second_fields k 0)) (b.member_term w))
+  fit_member = subst (λ n. IsTrue (fits w n (b.member_term w))) (sym (length-second_fields k 0)) (laws.second.tells_membership w width).fit
 
-    abbrev valid_term : Term
-    valid_term = pair_valid_term (valid_a w) (valid_b w) (member_b w) k
+  abbrev valid_term : Term
+  valid_term = pair_valid_term a b w
 
-    valid-fits : fits w (2 + k) valid_term ≡ true
-    valid-fits =
-        let fa = fits-more w 2 (2 + k) (omega arith) (valid_a w) fit_a in
-        let fb = fits-rename w (2 + k) (range_with_len 2 k) (range-below k (2 + k) (omega arith)) (valid_b w) fit_b in
-        let fm = fits-rename w (2 + k) (second_fields k 0) (second_fields-below k 0 (2 + k) (omega arith) (omega arith)) (member_b w) fit_member in
-        simp (fits-Node, fits-Const, fa, fb, fm, zero_word)
+  valid-fits : fits w (2 + k) valid_term ≡ true
+  valid-fits =
+      let fa = fits-more w 2 (2 + k) (omega arith) (a.valid_term w) fit_a in
+      let fb = fits-rename w (2 + k) (range_with_len 2 k) (range-below k (2 + k) (omega arith)) (b.valid_term w) fit_b in
+      let fm = fits-rename w (2 + k) (second_fields k 0) (second_fields-below k 0 (2 + k) (omega arith) (omega arith)) (b.member_term w) fit_member in
+      simp (fits-Node, fits-Const, fa, fb, fm, zero_word)
 
-    valid-small : nodes valid_term ≤ 16 ^ (2 + k)
-    valid-small =
-        let count : nodes valid_term ≡ 4 + nodes (valid_a w) + nodes (valid_b w) + nodes (member_b w) =
-        simp (nodes-Node, nodes-Const, nodes-rename) (omega arith) in
-        let ma = subst (λ n. nodes (valid_a w) ≤ 16 ^ n) two (tells_a w width).small in
-        rw count (few-nodes k _ _ _ some ma (tells_b w width).small (tells w width).small)
+  valid-small : nodes valid_term ≤ 16 ^ (2 + k)
+  valid-small =
+      let count : nodes valid_term ≡ 4 + nodes (a.valid_term w) + nodes (b.valid_term w) + nodes (b.member_term w) =
+      simp (nodes-Node, nodes-Const, nodes-rename) (omega arith) in
+      let ma = subst (λ n. nodes (a.valid_term w) ≤ 16 ^ n) laws.walks.has_two_fields (laws.first.tells_validity w width).small in
+      rw count (few-nodes k _ _ _ laws.second.has_fields ma (laws.second.tells_validity w width).small (laws.second.tells_membership w width).small)
 
-    module _ (x y : ℕ) (rest : List ℕ) (tuple : IsTuple w (2 + k) (x ∷ y ∷ rest)) where
-      count : length rest ≡ k
-      count = omega (arith, tuple.counted)
+  module _ (x y : ℕ) (rest : List ℕ) (tuple : IsTuple w (2 + k) (x ∷ y ∷ rest)) where
+    count : length rest ≡ k
+    count = omega (arith, tuple.counted)
 
-      all : take k rest ≡ rest
-      all = take_all k rest (omega (arith, count))
+    all : take k rest ≡ rest
+    all = take_all k rest (omega (arith, count))
 
-      read_b : map (slice_index (x ∷ y ∷ rest)) (range_with_len 2 k) ≡ rest
-      read_b = map-range (x ∷ y ∷ rest) 2 k (omega (arith, tuple.counted)) ∙ all
+    read_b : map (slice_index (x ∷ y ∷ rest)) (range_with_len 2 k) ≡ rest
+    read_b = map-range (x ∷ y ∷ rest) 2 k (omega (arith, tuple.counted)) ∙ all
 
-      read_member : map (slice_index (x ∷ y ∷ rest)) (second_fields k 0) ≡ rest ++ x ∷ []
-      read_member = map-append (slice_index (x ∷ y ∷ rest)) (range_with_len 2 k) (0 ∷ []) ∙ ap (λ l. l ++ x ∷ []) read_b
+    read_member : map (slice_index (x ∷ y ∷ rest)) (second_fields k 0) ≡ rest ++ x ∷ []
+    read_member = map-append (slice_index (x ∷ y ∷ rest)) (range_with_len 2 k) (0 ∷ []) ∙ ap (λ l. l ++ x ∷ []) read_b
 
-      valid-value : val w valid_term (x ∷ y ∷ rest) ≡
-          (if val w (valid_a w) (x ∷ y ∷ []) == 0 then 0 else if val w (valid_b w) rest == 0 then 0 else val w (member_b w) (rest ++ x ∷ []))
-      valid-value =
-          let ea = val-same w 2 (x ∷ y ∷ rest) (x ∷ y ∷ []) (first_two x y rest) (valid_a w) fit_a in
-          let eb = val-rename w (range_with_len 2 k) (x ∷ y ∷ rest) (valid_b w) fit_b ∙ ap (val w (valid_b w)) read_b in
-          let em = val-rename w (second_fields k 0) (x ∷ y ∷ rest) (member_b w) fit_member ∙ ap (val w (member_b w)) read_member in
-          simp (val-ternary, val-Const, ea, eb, em)
+    valid-value : val w valid_term (x ∷ y ∷ rest) ≡
+        (if val w (a.valid_term w) (x ∷ y ∷ []) == 0 then 0 else if val w (b.valid_term w) rest == 0 then 0 else val w (b.member_term w) (rest ++ x ∷ []))
+    valid-value =
+        let ea = val-same w 2 (x ∷ y ∷ rest) (x ∷ y ∷ []) (first_two x y rest) (a.valid_term w) fit_a in
+        let eb = val-rename w (range_with_len 2 k) (x ∷ y ∷ rest) (b.valid_term w) fit_b ∙ ap (val w (b.valid_term w)) read_b in
+        let em = val-rename w (second_fields k 0) (x ∷ y ∷ rest) (b.member_term w) fit_member ∙ ap (val w (b.member_term w)) read_member in
+        simp (val-ternary, val-Const, ea, eb, em)
 
-      valid-tells : (val w valid_term (x ∷ y ∷ rest) ≢ 0) ↔ (a.Valid w (x ∷ y ∷ []) × b.Valid w rest × b.Member w rest x)
-      valid-tells =
-          let ta = (tells_a w width).tells (x ∷ y ∷ []) (as_first a b two w (x ∷ y ∷ []) (pair-IsTuple w x y (tuple.words 0) (tuple.words 1))) in
-          let second : IsTuple w k rest = record { counted = count; words = λ i. tuple.words (suc (suc i)) } in
-          let tb = (tells_b w width).tells rest second in
-          let tm = member_term-tells b member_b tells w width rest second x (tuple.words 0) in
-          let three = all_three (val w (valid_a w) (x ∷ y ∷ [])) (val w (valid_b w) rest) (val w (member_b w) (rest ++ x ∷ [])) in (
-            λ h. let parts = three.0 (subst (λ n. n ≢ 0) valid-value h) in (ta.0 parts.0, tb.0 parts.1, tm.0 parts.2),
-            λ v. subst (λ n. n ≢ 0) (sym valid-value) (three.1 (ta.1 v.0, tb.1 v.1, tm.1 v.2)),
-          )
+    valid-tells : (val w valid_term (x ∷ y ∷ rest) ≢ 0) ↔ (a.meaning.Valid w (x ∷ y ∷ []) × b.meaning.Valid w rest × b.meaning.Member w rest x)
+    valid-tells =
+        let ta = (laws.first.tells_validity w width).tells (x ∷ y ∷ []) (as_first laws w (x ∷ y ∷ []) (pair-IsTuple w x y (tuple.words 0) (tuple.words 1))) in
+        let second : IsTuple w k rest = record { counted = count; words = λ i. tuple.words (suc (suc i)) } in
+        let tb = (laws.second.tells_validity w width).tells rest second in
+        let tm = member_term-tells laws.second w width rest second x (tuple.words 0) in
+        let three = all_three (val w (a.valid_term w) (x ∷ y ∷ [])) (val w (b.valid_term w) rest) (val w (b.member_term w) (rest ++ x ∷ [])) in (
+          λ h. let parts = three.0 (subst (λ n. n ≢ 0) valid-value h) in (ta.0 parts.0, tb.0 parts.1, tm.0 parts.2),
+          λ v. subst (λ n. n ≢ 0) (sym valid-value) (three.1 (ta.1 v.0, tb.1 v.1, tm.1 v.2)),
+        )
 
-    pub valid-IsIndicator : IsIndicator w (2 + k) (2 + k) valid_term ((pairs a b).Valid w)
-    valid-IsIndicator = record {
-      fit = valid-fits;
-      small = valid-small;
-      tells = λ env tuple. by_more_than_two
-          (λ env. IsTuple w (2 + k) env → (val w valid_term env ≢ 0) ↔ (pairs a b).Valid w env)
-          valid-tells env (omega (arith, tuple.counted)) tuple;
-    }
+  pub valid-IsIndicator : IsIndicator w (2 + k) (2 + k) valid_term ((pairs a.meaning b.meaning).Valid w)
+  valid-IsIndicator = record {
+    fit = valid-fits;
+    small = valid-small;
+    tells = λ env tuple. by_more_than_two
+        (λ env. IsTuple w (2 + k) env → (val w valid_term env ≢ 0) ↔ (pairs a.meaning b.meaning).Valid w env)
+        valid-tells env (omega (arith, tuple.counted)) tuple;
+  }
 
-  module _ (member_a member_b : ℕ → Term) (tells_a : TellsMembership a member_a) (tells_b : TellsMembership b member_b) where
-    abbrev n : ℕ
-    n = b.fields
+  abbrev three : List ℕ
+  three = 0 ∷ 1 ∷ (2 + k) ∷ []
 
-    abbrev three : List ℕ
-    three = 0 ∷ 1 ∷ (2 + n) ∷ []
+  fit_first : IsTrue (fits w (length three) (a.member_term w))
+  fit_first = subst (λ n. IsTrue (fits w (n + 1) (a.member_term w))) laws.walks.has_two_fields (laws.first.tells_membership w width).fit
 
-    fit_first : IsTrue (fits w (length three) (member_a w))
-    fit_first = subst (λ m. IsTrue (fits w (m + 1) (member_a w))) two (tells_a w width).fit
+  fit_second : IsTrue (fits w (length (second_fields k (2 + k))) (b.member_term w))
+  fit_second = subst (λ n. IsTrue (fits w n (b.member_term w))) (sym (length-second_fields k (2 + k))) (laws.second.tells_membership w width).fit
 
-    fit_second : IsTrue (fits w (length (second_fields n (2 + n))) (member_b w))
-    fit_second = subst (λ m. IsTrue (fits w m (member_b w))) (sym (length-second_fields n (2 + n))) (tells_b w width).fit
+  abbrev member_term : Term
+  member_term = pair_member_term a b w
 
-    abbrev member_term : Term
-    member_term = pair_member_term (member_a w) (member_b w) n
+  three-below : All (λ i. i < 2 + k + 1) three
+  three-below = All-cons (λ i. i < 2 + k + 1) 0 (1 ∷ (2 + k) ∷ []) (omega arith) (All-cons (λ i. i < 2 + k + 1) 1 ((2 + k) ∷ []) (omega arith)
+      (All-cons (λ i. i < 2 + k + 1) (2 + k) [] (omega arith) (λ i d h. absurd (omega arith))))
 
-    three-below : All (λ i. i < 2 + n + 1) three
-    three-below = All-cons (λ i. i < 2 + n + 1) 0 (1 ∷ (2 + n) ∷ []) (omega arith) (All-cons (λ i. i < 2 + n + 1) 1 ((2 + n) ∷ []) (omega arith)
-        (All-cons (λ i. i < 2 + n + 1) (2 + n) [] (omega arith) (λ i d h. absurd (omega arith))))
+  member-fits : fits w (2 + k + 1) member_term ≡ true
+  member-fits =
+      let fa = fits-rename w (2 + k + 1) three three-below (a.member_term w) fit_first in
+      let fb = fits-rename w (2 + k + 1) (second_fields k (2 + k)) (second_fields-below k (2 + k) (2 + k + 1) (omega arith) (omega arith)) (b.member_term w) fit_second in
+      simp (fits-Node, fits-Const, fa, fb, zero_word)
 
-    member-fits : fits w (2 + n + 1) member_term ≡ true
-    member-fits =
-        let fa = fits-rename w (2 + n + 1) three three-below (member_a w) fit_first in
-        let fb = fits-rename w (2 + n + 1) (second_fields n (2 + n)) (second_fields-below n (2 + n) (2 + n + 1) (omega arith) (omega arith)) (member_b w) fit_second in
-        simp (fits-Node, fits-Const, fa, fb, zero_word)
+  member-small : nodes member_term ≤ 16 ^ (2 + k)
+  member-small =
+      let count : nodes member_term ≡ 2 + nodes (a.member_term w) + nodes (b.member_term w) = simp (nodes-Node, nodes-Const, nodes-rename) (omega arith) in
+      let ma = subst (λ n. nodes (a.member_term w) ≤ 16 ^ n) laws.walks.has_two_fields (laws.first.tells_membership w width).small in
+      rw count (omega (arith, few-nodes k _ _ _ laws.second.has_fields ma (laws.second.tells_membership w width).small (laws.second.tells_membership w width).small))
 
-    member-small : nodes member_term ≤ 16 ^ (2 + n)
-    member-small =
-        let count : nodes member_term ≡ 2 + nodes (member_a w) + nodes (member_b w) = simp (nodes-Node, nodes-Const, nodes-rename) (omega arith) in
-        let ma = subst (λ m. nodes (member_a w) ≤ 16 ^ m) two (tells_a w width).small in
-        rw count (omega (arith, few-nodes n _ _ _ some ma (tells_b w width).small (tells_b w width).small))
+  module _ (x y : ℕ) (rest : List ℕ) (tuple : IsTuple w (2 + k + 1) (x ∷ y ∷ rest)) where
+    abbrev word : ℕ
+    word = slice_index rest k
 
-    module _ (x y : ℕ) (rest : List ℕ) (tuple : IsTuple w (2 + n + 1) (x ∷ y ∷ rest)) where
-      abbrev word : ℕ
-      word = slice_index rest n
+    at_word : slice_index (x ∷ y ∷ rest) (2 + k) ≡ word
+    at_word = let e : 2 + k ≡ suc (suc k) = omega arith in ap (slice_index (x ∷ y ∷ rest)) e
 
-      at_word : slice_index (x ∷ y ∷ rest) (2 + n) ≡ word
-      at_word = let e : 2 + n ≡ suc (suc n) = omega arith in ap (slice_index (x ∷ y ∷ rest)) e
+    read_first : map (slice_index (x ∷ y ∷ rest)) three ≡ (x ∷ y ∷ []) ++ word ∷ []
+    read_first = ap (λ c. x ∷ y ∷ c ∷ []) at_word
 
-      read_first : map (slice_index (x ∷ y ∷ rest)) three ≡ (x ∷ y ∷ []) ++ word ∷ []
-      read_first = ap (λ c. x ∷ y ∷ c ∷ []) at_word
+    read_second : map (slice_index (x ∷ y ∷ rest)) (second_fields k (2 + k)) ≡ take k rest ++ word ∷ []
+    read_second =
+        map-append (slice_index (x ∷ y ∷ rest)) (range_with_len 2 k) ((2 + k) ∷ [])
+        ∙ ap (λ l. l ++ slice_index (x ∷ y ∷ rest) (2 + k) ∷ []) (map-range (x ∷ y ∷ rest) 2 k (omega (arith, tuple.counted)))
+        ∙ ap (λ c. take k rest ++ c ∷ []) at_word
 
-      read_second : map (slice_index (x ∷ y ∷ rest)) (second_fields n (2 + n)) ≡ take n rest ++ word ∷ []
-      read_second =
-          map-append (slice_index (x ∷ y ∷ rest)) (range_with_len 2 n) ((2 + n) ∷ [])
-          ∙ ap (λ l. l ++ slice_index (x ∷ y ∷ rest) (2 + n) ∷ []) (map-range (x ∷ y ∷ rest) 2 n (omega (arith, tuple.counted)))
-          ∙ ap (λ c. take n rest ++ c ∷ []) at_word
+    member-value : val w member_term (x ∷ y ∷ rest) ≡
+        (if val w (a.member_term w) ((x ∷ y ∷ []) ++ word ∷ []) == 0 then 0 else val w (b.member_term w) (take k rest ++ word ∷ []))
+    member-value =
+        let ea = val-rename w three (x ∷ y ∷ rest) (a.member_term w) fit_first ∙ ap (val w (a.member_term w)) read_first in
+        let eb = val-rename w (second_fields k (2 + k)) (x ∷ y ∷ rest) (b.member_term w) fit_second ∙ ap (val w (b.member_term w)) read_second in
+        simp (val-ternary, val-Const, ea, eb)
 
-      member-value : val w member_term (x ∷ y ∷ rest) ≡
-          (if val w (member_a w) ((x ∷ y ∷ []) ++ word ∷ []) == 0 then 0 else val w (member_b w) (take n rest ++ word ∷ []))
-      member-value =
-          let ea = val-rename w three (x ∷ y ∷ rest) (member_a w) fit_first ∙ ap (val w (member_a w)) read_first in
-          let eb = val-rename w (second_fields n (2 + n)) (x ∷ y ∷ rest) (member_b w) fit_second ∙ ap (val w (member_b w)) read_second in
-          simp (val-ternary, val-Const, ea, eb)
+    member-tells : (val w member_term (x ∷ y ∷ rest) ≢ 0) ↔ (a.meaning.Member w (x ∷ y ∷ []) word × b.meaning.Member w (take k rest) word)
+    member-tells =
+        let below = tuple.words (suc (suc k)) in
+        let front : IsTuple w k (take k rest) = front-IsTuple in
+        let ta = member_term-tells laws.first w width (x ∷ y ∷ []) (as_first laws w (x ∷ y ∷ []) (pair-IsTuple w x y (tuple.words 0) (tuple.words 1))) word below in
+        let tb = member_term-tells laws.second w width (take k rest) front word below in
+        let pair = both (val w (a.member_term w) ((x ∷ y ∷ []) ++ word ∷ [])) (val w (b.member_term w) (take k rest ++ word ∷ [])) in (
+          λ h. let parts = pair.0 (subst (λ n. n ≢ 0) member-value h) in (ta.0 parts.0, tb.0 parts.1),
+          λ v. subst (λ n. n ≢ 0) (sym member-value) (pair.1 (ta.1 v.0, tb.1 v.1)),
+        )
+      where
+        front-IsTuple : IsTuple w k (take k rest)
+        front-IsTuple = record {
+          counted = length-take-le k rest (omega (arith, tuple.counted));
+          words = λ i. elim (cases_lt i k) [
+            | inl less ↦ rw (get_or-take k rest i 0 less) (tuple.words (suc (suc i)))
+            | inr more ↦ rw (get_or_past (take k rest) i 0 (omega (arith, length-take-le k rest (omega (arith, tuple.counted))))) (pow_pos w)
+          ];
+        }
 
-      member-tells : (val w member_term (x ∷ y ∷ rest) ≢ 0) ↔ (a.Member w (x ∷ y ∷ []) word × b.Member w (take n rest) word)
-      member-tells =
-          let below = tuple.words (suc (suc n)) in
-          let front : IsTuple w n (take n rest) = front-IsTuple in
-          let ta = member_term-tells a member_a tells_a w width (x ∷ y ∷ []) (as_first a b two w (x ∷ y ∷ []) (pair-IsTuple w x y (tuple.words 0) (tuple.words 1))) word below in
-          let tb = member_term-tells b member_b tells_b w width (take n rest) front word below in
-          let pair = both (val w (member_a w) ((x ∷ y ∷ []) ++ word ∷ [])) (val w (member_b w) (take n rest ++ word ∷ [])) in (
-            λ h. let parts = pair.0 (subst (λ m. m ≢ 0) member-value h) in (ta.0 parts.0, tb.0 parts.1),
-            λ v. subst (λ m. m ≢ 0) (sym member-value) (pair.1 (ta.1 v.0, tb.1 v.1)),
-          )
-        where
-          front-IsTuple : IsTuple w n (take n rest)
-          front-IsTuple = record {
-            counted = length-take-le n rest (omega (arith, tuple.counted));
-            words = λ i. elim (cases_lt i n) [
-              | inl less ↦ rw (get_or-take n rest i 0 less) (tuple.words (suc (suc i)))
-              | inr more ↦ rw (get_or_past (take n rest) i 0 (omega (arith, length-take-le n rest (omega (arith, tuple.counted))))) (pow_pos w)
-            ];
-          }
-
-    pub member-IsIndicator : IsIndicator w (2 + n) (2 + n + 1) member_term (λ env. (pairs a b).Member w (take (2 + n) env) (slice_index env (2 + n)))
-    member-IsIndicator = record {
-      fit = member-fits;
-      small = member-small;
-      tells = λ env tuple. by_more_than_two
-          (λ env. IsTuple w (2 + n + 1) env → (val w member_term env ≢ 0) ↔ (pairs a b).Member w (take (2 + n) env) (slice_index env (2 + n)))
-          (λ x y rest t. subst
-          (λ m. (val w member_term (x ∷ y ∷ rest) ≢ 0) ↔ (pairs a b).Member w (take m (x ∷ y ∷ rest)) (slice_index (x ∷ y ∷ rest) m))
-          (let e : suc (suc n) ≡ 2 + n = omega arith in e) (member-tells x y rest t))
-          env (omega (arith, tuple.counted)) tuple;
-    }
+  pub member-IsIndicator : IsIndicator w (2 + k) (2 + k + 1) member_term (λ env. (pairs a.meaning b.meaning).Member w (take (2 + k) env) (slice_index env (2 + k)))
+  member-IsIndicator = record {
+    fit = member-fits;
+    small = member-small;
+    tells = λ env tuple. by_more_than_two
+        (λ env. IsTuple w (2 + k + 1) env → (val w member_term env ≢ 0) ↔ (pairs a.meaning b.meaning).Member w (take (2 + k) env) (slice_index env (2 + k)))
+        (λ x y rest t. subst
+        (λ n. (val w member_term (x ∷ y ∷ rest) ≢ 0) ↔ (pairs a.meaning b.meaning).Member w (take n (x ∷ y ∷ rest)) (slice_index (x ∷ y ∷ rest) n))
+        (let e : suc (suc k) ≡ 2 + k = omega arith in e) (member-tells x y rest t))
+        env (omega (arith, tuple.counted)) tuple;
+  }

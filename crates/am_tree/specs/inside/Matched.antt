@@ -28,13 +28,13 @@ abbrev pub givers : Rules → List Tree → List (ℕ → Term)
 givers rules ts = map (λ t n. term_of rules n t) ts
 
 -- the trees are children with which the production makes the term
-pub record Makes (rules : Rules) (d : ℕ) (p : Production) (term : Term) (ts : List Tree) : Type 0 where
+pub record Produces (rules : Rules) (d : ℕ) (p : Production) (term : Term) (ts : List Tree) : Type 0 where
   pub derived : AreDerived (Derives rules d) (Some p) ts
   pub gives : term_by (Some p) (givers rules ts) ≡ term
 
 abbrev pub AreChildren : Rules → ℕ → Production → Term → Option (List Tree) → Type 0
 AreChildren rules d p term found =
-    MatchOption found ((ts : List Tree) → ¬ Makes rules d p term ts) (Makes rules d p term)
+    MatchOption found ((ts : List Tree) → ¬ Produces rules d p term ts) (Produces rules d p term)
 
 -- the trees derive from the nonterminals, and give the terms
 pub record Joins (rules : Rules) (d : ℕ) (names : List ℕ) (args : List Term) (ts : List Tree) : Type 0 where

@@ -8,8 +8,8 @@ use Rattle.std.proofs.lemmas.Bool.{cases_lt, and_parts}
 use Rattle.std.proofs.lemmas.Bool.Decides.{nat_tests}
 use Rattle.am_domain.specs.Tuple.{IsTuple}
 use Rattle.am_domain.specs.Walk.{steps}
-use Rattle.am_domain.proofs.Laws.{pair-IsTuple, steps-word, steps-cases, steps-on, steps-self}
-use Rattle.am_wrap.specs.WrappedIntervals.{start, end, span, IsOnTheWay, lies_in, both_lie_in, across, round_from}
+use Rattle.am_domain.proofs.Laws.{pair-IsTuple, steps-word, steps-cases, steps-on, steps-self, steps-upwards}
+use Rattle.am_wrap.specs.WrappedIntervals.{start, end, span, IsOnTheWay, LiesIn, lies_in, both_lie_in, across, round_from}
 use Rattle.am_wrap.specs.WrappedIntervals.{narrower, bridge, wrapped_join}
 
 -- two words are a tuple
@@ -45,6 +45,36 @@ Lies-members w a b ha hb lie c below member =
         | inr round ↦ omega (arith, within, member, round.1, steps-word w (start a) c)
       ]
     ]
+
+-- an interval whose members are all members of another lies in it: else the word after the end of the other is one too
+members-Lie : (w : ℕ) (a b : List ℕ) → IsTuple w 2 a → IsTuple w 2 b → LiesIn w a b → Lies w a b
+members-Lie w a b ha hb within =
+    elim (cases_lt (span w b) (steps w (start b) (start a) + span w a)) [
+      | inr most ↦ inr most
+      | inl more ↦ elim (cases_lt (span w b + 1) (2 ^ w)) [
+        | inr all ↦ inl (omega (arith, all, steps-word w (start b) (end b)))
+        | inl less ↦ absurd (passes more less)
+      ]
+    ]
+  where
+    next : ℕ
+    next = (start b + (span w b + 1)) % 2 ^ w
+
+    passes : span w b < steps w (start b) (start a) + span w a → span w b + 1 < 2 ^ w → ⊥
+    passes more less =
+        let word : next < 2 ^ w = mod-lt _ (pow_pos w) in
+        let reach = steps-upwards w (start b) (span w b + 1) (hb.words 0) less in
+        let starts = within (start a) (ha.words 0) (omega (arith, steps-self w (start a) (ha.words 0))) in
+        elim (steps-on w (start b) (start a) next (hb.words 0) (ha.words 0) word) [
+          | inl on ↦ let found = within next word (omega (arith, on.1, reach, more)) in omega (arith, found, reach)
+          | inr round ↦ omega (arith, round.0, reach, starts)
+        ]
+
+-- the rule tells whether each member is one of the other's
+pub lies_in-members : (w : ℕ) (a b : List ℕ) → IsTuple w 2 a → IsTuple w 2 b → IsTrue (lies_in w a b) ↔ LiesIn w a b
+lies_in-members w a b ha hb =
+    let tells = lies_in-tells w a b in
+    (λ h. Lies-members w a b ha hb (tells.0 h), λ within. tells.1 (members-Lie w a b ha hb within))
 
 -- an interval in which two lie is wider than the first where the second doesn't lie in that
 pub wider : (w : ℕ) (a b c : List ℕ) → IsTuple w 2 a → IsTuple w 2 b → IsTuple w 2 c → Lies w a c → Lies w b c → ¬ Lies w b a → span w a < span w c

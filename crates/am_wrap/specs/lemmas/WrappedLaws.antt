@@ -10,13 +10,15 @@ use Rattle.am_bv.proofs.Laws.{one_is_word, val-Const, val-Field, val-binary, fit
 use Rattle.am_bv.proofs.Laws.{nodes-Const, nodes-Field, nodes-Node}
 use Rattle.am_domain.specs.Meaning.{IsAbstract}
 use Rattle.am_domain.specs.Laws.{HasMembers, HasTop, HoldsWords, JoinsAbove, Descends, Tidies, TellsValidity}
-use Rattle.am_domain.specs.Laws.{TellsMembership}
+use Rattle.am_domain.specs.Laws.{TellsMembership, KeepsLaws}
 use Rattle.am_domain.specs.AnchoredLaws.{HasStart, HasPoints, KeepsStart, WalksMembers, HasParts}
-use Rattle.am_domain.specs.Walk.{steps}
+use Rattle.am_domain.specs.AnchoredLaws.{IsAnchored}
+use Rattle.am_domain.specs.Walk.{point, steps}
 use Rattle.am_domain.proofs.Laws.{pair-IsTuple, by_three, steps-word, steps-cases, steps-self, Contains-walk}
-use Rattle.am_wrap.specs.WrappedIntervals.{start, end, span, IsOnTheWay, wrapped_intervals, wrapped_top, point}
-use Rattle.am_wrap.specs.WrappedIntervals.{wrapped_join, wrapped_tidy, wrapped_rank, wrapped_valid_term}
-use Rattle.am_wrap.specs.WrappedIntervals.{wrapped_member_term}
+use Rattle.am_domain.proofs.Laws.{part-IsPart}
+use Rattle.am_wrap.specs.WrappedIntervals.{start, end, span, IsOnTheWay, wrapped_intervals, wrapped_top}
+use Rattle.am_wrap.specs.WrappedIntervals.{all_wrapped_intervals}
+use Rattle.am_wrap.specs.WrappedIntervals.{wrapped_join, wrapped_member_term}
 use Rattle.am_wrap.specs.lemmas.Lying.{Lies-members, wider, join-IsAbove}
 
 -- each tuple is a value
@@ -27,10 +29,10 @@ value w c d h k = record { tuple = pair-IsTuple w c d h k; valid = tt }
 starts : (w : ℕ) (a : List ℕ) → start a < 2 ^ w → IsOnTheWay w a (start a)
 starts w a h = omega (arith, steps-self w (start a) h)
 
-pub has_members : HasMembers wrapped_intervals (λ w. start)
+has_members : HasMembers all_wrapped_intervals
 has_members w width a h = (h.tuple.words 0, starts w a (h.tuple.words 0))
 
-pub has_top : HasTop wrapped_intervals wrapped_top
+has_top : HasTop all_wrapped_intervals
 has_top w width = (
   value w 0 (2 ^ w - 1) (pow_pos w) (omega (arith, pow_pos w)),
   λ c below. omega (arith, all, steps-word w 0 c),
@@ -41,10 +43,10 @@ has_top w width = (
         let last : 2 ^ w - 1 < 2 ^ w = omega (arith, pow_pos w) in
         elim (steps-cases w 0 (2 ^ w - 1) (pow_pos w) last) [ inl up ↦ omega (arith, up.1) | inr round ↦ absurd (omega (arith, round.0)) ]
 
-pub holds_words : HoldsWords wrapped_intervals (λ w. point)
+holds_words : HoldsWords all_wrapped_intervals
 holds_words w width c h = (value w c c h h, starts w (point c) h)
 
-pub joins_above : JoinsAbove wrapped_intervals wrapped_join
+joins_above : JoinsAbove all_wrapped_intervals
 joins_above w width a b ha hb =
     let above = join-IsAbove w (one_is_word w width.0) a b ha.tuple hb.tuple in
     record {
@@ -53,7 +55,7 @@ joins_above w width a b ha hb =
       second = Lies-members w b _ hb.tuple above.tuple above.second;
     }
 
-pub descends : Descends wrapped_intervals wrapped_join wrapped_rank
+descends : Descends all_wrapped_intervals
 descends = record {
   most = λ w width a h. omega arith;
   falls = λ w width a b ha hb changed.
@@ -68,10 +70,10 @@ descends = record {
       ];
 }
 
-pub tidies : Tidies wrapped_intervals (λ w. wrapped_tidy)
+tidies : Tidies all_wrapped_intervals
 tidies w width raw tuple = (record { tuple = tuple; valid = tt }, λ c below member. member)
 
-pub tells_validity : TellsValidity wrapped_intervals (λ w. wrapped_valid_term)
+tells_validity : TellsValidity all_wrapped_intervals
 tells_validity w width =
     let one : nat_lt 1 (2 ^ w) ≡ true = lt-ltb 1 (2 ^ w) (one_is_word w width.0) in
     record {
@@ -83,7 +85,7 @@ tells_validity w width =
 order-tells : (x y : ℕ) → (one_if (nat_le x y) ≢ 0) ↔ (x ≤ y)
 order-tells x y = grind (arith, nat_tests)
 
-pub tells_membership : TellsMembership wrapped_intervals (λ w. wrapped_member_term)
+tells_membership : TellsMembership all_wrapped_intervals
 tells_membership w width = record {
   fit = simp (fits-Node, fits-Field);
   small = simp (nodes-Node, nodes-Field) (lit≤ tt);
@@ -92,17 +94,43 @@ tells_membership w width = record {
       env tuple.counted;
 }
 
-pub has_start : HasStart wrapped_intervals
+has_start : HasStart all_wrapped_intervals
 has_start w width a h = starts w a (h.tuple.words 0)
 
-pub has_points : HasPoints (λ w. point)
+has_points : HasPoints all_wrapped_intervals
 has_points w c h = refl
 
-pub keeps_start : KeepsStart wrapped_intervals wrapped_join
+keeps_start : KeepsStart all_wrapped_intervals
 keeps_start w width a b ha hb = (join-IsAbove w (one_is_word w width.0) a b ha.tuple hb.tuple).start
 
-pub walks_members : WalksMembers wrapped_intervals
+walks_members : WalksMembers all_wrapped_intervals
 walks_members w width a h c below = let among = Contains-walk w a c h.tuple below in (among.1, among.0)
 
-pub has_parts : HasParts wrapped_intervals
-has_parts w width a h c d hc hd in_c in_d order = tt
+has_parts : HasParts all_wrapped_intervals
+has_parts w width a h c e hc he in_c in_e order = part-IsPart all_wrapped_intervals refl walks_members w width a h c e hc he order tt
+
+-- all laws of a domain hold
+pub wrapped_laws : KeepsLaws all_wrapped_intervals
+wrapped_laws = record {
+  has_fields = lit≤ tt;
+  few_fields = lit≤ tt;
+  has_members = has_members;
+  has_top = has_top;
+  holds_words = holds_words;
+  joins_above = joins_above;
+  descends = descends;
+  tidies = tidies;
+  tells_validity = tells_validity;
+  tells_membership = tells_membership;
+}
+
+-- and those of a domain whose values are walks
+pub wrapped_walks : IsAnchored all_wrapped_intervals
+wrapped_walks = record {
+  has_two_fields = refl;
+  has_start = has_start;
+  has_points = has_points;
+  keeps_start = keeps_start;
+  walks_members = walks_members;
+  has_parts = has_parts;
+}

@@ -1,18 +1,17 @@
 -- What is read for an analysis, as it is stored, and what its calls answer.
-use Rattle.std.specs.Prelude.{◌≡◌, ℕ, List, All, Err, Ok, Result, Some, map, slice_get, take}
+use Rattle.std.specs.Prelude.{◌≡◌, ℕ, List, Err, Ok, Result, map}
 use Rattle.am_text.specs.Tokens.{Left}
 use Rattle.am_cert.specs.Certificate.{Certificate}
-use Rattle.am_cert.specs.Checking.{HasFault, IsAcceptable}
+use Rattle.am_cert.specs.Checking.{HasFault}
 use Rattle.am_cert.specs.StoredDraft.{seen_draft}
 use Rattle.am_cert.specs.Texts.{Draft}
 use Rattle.am_flow.specs.Flows.{Flow}
-use Rattle.am_query.specs.AcceptanceLaws.{IsRight}
 use Rattle.am_query.specs.declared.fault.Fault.{Fault}
 use Rattle.am_syntax.specs.Readers.{Read}
 use Rattle.am_syntax.specs.Texts.{IsRefusedAt}
 use Rattle.am_syntax.specs.declared.refusal.ReadError.{ReadError}
 use Rattle.am_syntax.specs.declared.refusal.ReadError.TheVariants.{NoMemory, Refused}
-use Rattle.amurth.specs.Analysed.{Analysis as Data}
+use Rattle.amurth.specs.Analysed.{Analysis as Data, IsFirstFault}
 use Rattle.amurth.specs.declared.analysing.Unaccepted.{Unaccepted}
 use Rattle.amurth.specs.declared.analysing.Unaccepted.TheVariants as unaccepted
 use Rattle.amurth.specs.declared.inputs.Analysis.{Analysis}
@@ -33,18 +32,6 @@ ReadsAt view (Err (Refused r)) new read = IsRefusedAt r new read
 ReadsAt view (Err NoMemory) new read = Unit {0}
 
 -- ---- checking
-
--- a certificate whose outcome is accepted and right
-pub record IsProved (c : Certificate) : Type 0 where
-  pub accepted : IsAcceptable c
-  pub right : IsRight c.problem c.outcome
-
--- the certificate with this number isn't accepted, with its first fault, and all before it are
-pub record IsFirstFault (cs : List Certificate) (number : ℕ) (fault : Fault) : Type 0 where
-  pub certificate : Certificate
-  pub here : slice_get cs number ≡ Some certificate
-  pub before : All IsAcceptable (take number cs)
-  pub has : HasFault certificate fault
 
 -- a failure of this certificate: its number and its first fault, or want of memory
 abbrev pub IsFailureAt : ℕ → Certificate → Unaccepted → Type 0

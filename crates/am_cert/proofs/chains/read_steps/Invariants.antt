@@ -1,6 +1,5 @@
 use Rattle.std.proofs.Common.{◌≡◌, [], length}
 use Rattle.am_syntax.specs.Pieces.{repeat_from}
-use Rattle.am_syntax.specs.Readers.{Reached}
 use Rattle.am_cert.specs.Grammar.{is_number_next, step}
 use Rattle.am_cert.proofs.chains.read_steps.Given as goal
 
@@ -8,8 +7,6 @@ abbrev pub decreases-steps : goal.decreases-steps
 decreases-steps l = length l.text.tokens
 
 abbrev pub invariant-steps : goal.invariant-steps
-invariant-steps l = record {
-  reached : Reached l.initial.text l.text;
-  read : repeat_from is_number_next (λ _. step.read) l.steps l.text ≡
-      repeat_from is_number_next (λ _. step.read) [] l.initial.text;
-}
+invariant-steps l =
+    repeat_from is_number_next (λ _. step.read) l.steps l.text ≡
+    repeat_from is_number_next (λ _. step.read) [] l.initial.text

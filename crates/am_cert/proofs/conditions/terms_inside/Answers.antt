@@ -28,4 +28,4 @@ returns-clause-verdict c =
     all_inside c.args.p.now c.args.terms.now c.loop-i.i c.requires c.loop-i.invariant (rw whole at c.loop-i-test.false)
 
 pub returns-clause-transformer : goal.returns-clause-transformer
-returns-clause-transformer c = derivable c.args.p.now c.args.terms.now c.requires (returns-clause-verdict c)
+returns-clause-transformer c = derivable c.args.p.now c.args.terms.now (returns-clause-verdict c)

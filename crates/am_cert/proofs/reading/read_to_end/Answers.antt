@@ -26,7 +26,7 @@ returns c =
     let read = c.take_certificate-read.result in
     let closed =
     text_closed drafts seen_draft text left read c.requires.allowed
-    (subst (λ s. Makes seen_draft read s left draft) c.requires.whole c.take_certificate-read.ensures) in
+    (subst (λ s. Makes seen_draft read s left draft) c.requires.whole c.take_certificate-read.ensures.read) in
     let alike = ap (opened drafts text) c.requires.allowed ∙ sym (ap (drafted text) c.requires.allowed) in
     subst (λ r. Answers seen_draft r (drafted text (bad_byte text))) (sym c.close.ensures)
     (subst (Answers seen_draft _) alike closed)

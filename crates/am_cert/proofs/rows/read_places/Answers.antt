@@ -15,10 +15,7 @@ read_list-requires c =
       (refl, tt),
       (
         few,
-        (
-          (λ seen. (each_place_law c.min.result few seen).advances),
-          moves_on (each_place_law c.min.result few) (place_moves c.min.result few),
-        ),
+        moves_on (each_place_law c.min.result few) (place_moves c.min.result few),
       ),
     )
 
@@ -26,4 +23,4 @@ pub returns : goal.returns
 returns c =
     makes_same c.read_list.result c.args.text.now c.read_list.new.text _
     (subst (λ m. Makes (map (λ n. n)) c.read_list.result c.args.text.now c.read_list.new.text
-    (repeat_from is_number_next (λ seen. (below (place_behind seen) m).read) [])) c.min.ensures c.read_list.ensures)
+    (repeat_from is_number_next (λ seen. (below (place_behind seen) m).read) [])) c.min.ensures c.read_list.ensures.read)

@@ -1,11 +1,9 @@
 use Rattle.std.proofs.Common.{◌≡◌, ℕ, List, [], ◌∷◌, ◌++◌, Err, ap, arith, length-append, ◌∙◌, rules}
 use Rattle.std.proofs.lemmas.Result.{err_from_is_err_and}
 use Rattle.am_syntax.specs.Readers.{Reader}
-use Rattle.am_syntax.specs.declared.refusal.Failure.TheVariants.{Refused}
-use Rattle.am_syntax.proofs.Laws.{reached_ok, reached_then, times_done, times_fails, times_more}
+use Rattle.am_syntax.proofs.Laws.{times_done, times_fails, times_more}
 use Rattle.am_cert.specs.Grammar.{word, words}
 use Rattle.am_cert.specs.inside.Shapes.{seen_shape}
-use Rattle.am_cert.proofs.RowLaws.{word_advances}
 use Rattle.am_cert.proofs.Steps.{gives_refused}
 use Rattle.am_cert.proofs.rows.read_words.Goals as goal
 
@@ -16,8 +14,8 @@ returns-in_err-read_word g c =
     let reads : List ℕ → Reader ℕ = λ _. (word (seen_shape c.args.s.now)).read in
     gives_refused (λ row. row) c.from_residual.result cause c.args.text.now c.read_word.new.text
     (words (seen_shape c.args.s.now) c.args.count).read (p.1 ∙ ap Err p.2)
-    (times_fails reads (Refused cause) c.args.count c.words.counter c.words.row c.args.text.now c.words.text
-    c.read_word.new.text _ c.words-test.true c.words.invariant.reached c.in_err-read_word.ensures c.words.invariant.read)
+    (times_fails reads c.args.count c.words.counter c.words.row c.words.text (cause, c.read_word.new.text) _
+    c.words-test.true c.in_err-read_word.ensures c.words.invariant.read)
 
 pub words-preserved : goal.words-preserved
 words-preserved g c =
@@ -26,9 +24,6 @@ words-preserved g c =
     let reads : List ℕ → Reader ℕ = λ _. (word s).read in
     rw c.push.ensures (record {
       so_many = omega (arith, c.words.invariant.so_many, length-append c.words.row (n ∷ []));
-      reached =
-          reached_then c.args.text.now c.words.text c.read_word.new.text c.words.invariant.reached
-          (reached_ok (word s).read c.words.text c.read_word.new.text n (word_advances s) c.in_ok-read_word.ensures);
       read =
           times_more reads c.args.count c.words.counter c.words.row c.words.text n c.read_word.new.text _
           c.words-test.true c.in_ok-read_word.ensures c.words.invariant.read;

@@ -11,9 +11,6 @@ read_list-requires c =
       (refl, tt),
       (
         c.requires,
-        (
-          (λ seen. (turn_law s c.requires c.args.most seen).advances),
-          moves_on (turn_law s c.requires c.args.most) (turn_moves s c.requires c.args.most),
-        ),
+        moves_on (turn_law s c.requires c.args.most) (turn_moves s c.requires c.args.most),
       ),
     )

@@ -1,4 +1,4 @@
-use Rattle.std.proofs.Common.{◌≤◌, ◌++◌, ◌∷◌, [], length, arith}
+use Rattle.std.proofs.Common.{◌≤◌, ◌++◌, ◌∷◌, [], inr, length, refl, arith}
 use Rattle.am_dual.proofs.Ending.{absence_ends}
 use Rattle.am_dual.proofs.turns.absent.Goals as goal
 
@@ -8,8 +8,9 @@ returns-then-len-turns c =
     let trace = c.args.trace ++ c.args.turn ∷ [] in
     let grown = c.in_ok-push.ensures.ok in
     let few : length c.push.new.self ≤ p.turns = omega arith in
-    rw grown (absence_ends p trace c.args.log (record {
+    let ends = absence_ends p trace c.args.log (record {
       within = record { valid = c.requires.within.valid; few = rw grown at few };
       nothing = c.requires.nothing;
       refuted = c.requires.refuted;
-    }))
+    }) in
+    rw grown (ends, inr (c.args.turn, refl))

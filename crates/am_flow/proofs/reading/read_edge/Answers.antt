@@ -1,9 +1,8 @@
 use Rattle.std.proofs.Common.{Err, length, ap, cond, le-ltb, ◌∙◌}
 use Rattle.std.proofs.lemmas.Result.{err_from_is_err_and}
 use Rattle.am_syntax.specs.declared.refusal.Cause.TheVariants.{Count}
-use Rattle.am_syntax.specs.declared.refusal.Failure.TheVariants.{Refused}
 use Rattle.am_syntax.specs.Readers.{Read, judged}
-use Rattle.am_syntax.proofs.Laws.{makes_err, refused_alike}
+use Rattle.am_syntax.proofs.Laws.{makes_refused, refused_alike}
 use Rattle.am_flow.specs.declared.flow.Edge.{Edge}
 use Rattle.am_flow.specs.declared.limits.TheConstants.{MOST_EDGES}
 use Rattle.am_flow.specs.Grammar.{edge, edge_line}
@@ -20,6 +19,6 @@ returns-in_err-refuse_next c =
     let left = c.refuse_next.new.text in
     let seen = c.args.seen.now in
     let refused : Read Edge = judged (λ _. Err Count) old in
-    makes_err (λ x. x) old left (edge s seen).read (Refused cause) c.from_residual.result (p.1 ∙ ap Err p.2)
+    makes_refused (λ x. x) old left (edge s seen).read cause c.from_residual.result (p.1 ∙ ap Err p.2)
     (ap (λ b. cond b ((edge_line s).read old) refused) (le-ltb (length seen) MOST_EDGES c.if-seen-lt-MOST_EDGES.false)
     ∙ refused_alike Count (cause, left) old c.in_err-refuse_next.ensures.value)

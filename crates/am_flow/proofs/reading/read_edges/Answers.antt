@@ -11,9 +11,6 @@ read_list-requires c =
       (refl, tt),
       (
         c.requires,
-        (
-          (λ seen. (edge_law s c.requires seen).advances),
-          moves_on (edge_law s c.requires) (edge_moves s c.requires),
-        ),
+        moves_on (edge_law s c.requires) (edge_moves s c.requires),
       ),
     )

@@ -11,9 +11,6 @@ read_list-requires c =
       (refl, tt),
       (
         tt,
-        (
-          (λ seen. (variable_law s c.requires).advances),
-          moves_on (λ seen. variable_law s c.requires) (variable_moves s c.requires),
-        ),
+        moves_on (λ seen. variable_law s c.requires) (variable_moves s c.requires),
       ),
     )

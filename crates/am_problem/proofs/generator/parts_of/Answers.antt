@@ -1,5 +1,8 @@
-use Rattle.am_problem.proofs.GeneratorLaws.{made-problem}
+use Rattle.am_problem.proofs.GeneratorLaws.{made-problem, made_operation-pair}
 use Rattle.am_problem.proofs.generator.parts_of.Goals as goal
+
+pub binary-requires : goal.binary-requires
+binary-requires c = rw c.operation_of.ensures (made_operation-pair c.args.n)
 
 pub invariant_of-result : goal.invariant_of-result
 invariant_of-result c =

@@ -10,10 +10,7 @@ read_list-requires c =
       (refl, tt),
       (
         tt,
-        (
-          (λ before. (each_law (seen_scope c.args.scope.now) c.requires c.args.room before).advances),
-          moves_on (each_law (seen_scope c.args.scope.now) c.requires c.args.room)
-              (each_moves (seen_scope c.args.scope.now) c.requires c.args.room),
-        ),
+        moves_on (each_law (seen_scope c.args.scope.now) c.requires c.args.room)
+            (each_moves (seen_scope c.args.scope.now) c.requires c.args.room),
       ),
     )

@@ -10,10 +10,7 @@ read_list-requires c =
       (refl, tt),
       (
         c.requires,
-        (
-          (λ seen. (rule_law (seen_scope c.args.scope.now) c.requires seen).advances),
-          moves_on (rule_law (seen_scope c.args.scope.now) c.requires)
-              (rule_moves (seen_scope c.args.scope.now) c.requires),
-        ),
+        moves_on (rule_law (seen_scope c.args.scope.now) c.requires)
+            (rule_moves (seen_scope c.args.scope.now) c.requires),
       ),
     )

@@ -1,6 +1,6 @@
 use Rattle.std.proofs.Common.{◌≡◌, ◌≤◌, true, length, subst, arith}
 use Rattle.am_lit.specs.Truth.{Satisfies, value_at}
-use Rattle.am_solve.specs.Answers.{IsAnswer}
+use Rattle.am_query.specs.inside.Solved.{IsSolved}
 use Rattle.am_query.specs.Formulas.{circuit_of}
 use Rattle.am_query.specs.QueryLaws.{AreExamples}
 use Rattle.am_query.specs.Witnesses.{chosen_terms}
@@ -12,7 +12,7 @@ use Rattle.am_query.proofs.fit_query.fit.Goals as goal
 pub decode-requires : goal.decode-requires
 decode-requires c =
     let formula = c.in_ok-stated.stated.formula in
-    let sat = subst (IsAnswer formula.clauses formula.vars c.args.limit) c.in-Sat.is c.in_ok-assignment.ensures.answer in
+    let sat = subst (IsSolved formula c.args.limit) c.in-Found.is c.in_ok-assignment.ensures.answer in
     omega (arith, sat.0, c.in_ok-stated.ensures.selectors)
 
 pub terms_of-requires : goal.terms_of-requires
@@ -20,9 +20,9 @@ terms_of-requires c =
     let p = c.args.p.now in
     let pos = c.args.pos.now in
     let neg = c.args.neg.now in
-    let v = value_at c.in-Sat.assignment.values in
+    let v = value_at c.in-Found.assignment.values in
     let formula = c.in_ok-stated.stated.formula in
-    let sat = subst (IsAnswer formula.clauses formula.vars c.args.limit) c.in-Sat.is c.in_ok-assignment.ensures.answer in
+    let sat = subst (IsSolved formula c.args.limit) c.in-Found.is c.in_ok-assignment.ensures.answer in
     let satisfied : Satisfies v (circuit_of true p (Fit pos neg)).clauses =
     rw c.in_ok-stated.ensures.stated.clauses at sat.1 in
     let examples = c.requires.examples in
@@ -32,17 +32,17 @@ terms_of-requires c =
       c.grammar.ensures.rules,
       c.grammar.ensures.starts,
       c.grammar.ensures.depth,
-      c.in_ok-trees-in-Sat.ensures.trees,
+      c.in_ok-trees-in-Found.ensures.trees,
       c.in_ok-stated.ensures.template,
     )
     chosen.serves.derived
 
-pub returns-in-Sat-clause-answer : goal.returns-in-Sat-clause-answer
-returns-in-Sat-clause-answer c =
+pub returns-in-Found-clause-answer : goal.returns-in-Found-clause-answer
+returns-in-Found-clause-answer c =
     let p = c.args.p.now in
-    let v = value_at c.in-Sat.assignment.values in
+    let v = value_at c.in-Found.assignment.values in
     let formula = c.in_ok-stated.stated.formula in
-    let sat = subst (IsAnswer formula.clauses formula.vars c.args.limit) c.in-Sat.is c.in_ok-assignment.ensures.answer in
+    let sat = subst (IsSolved formula c.args.limit) c.in-Found.is c.in_ok-assignment.ensures.answer in
     let satisfied : Satisfies v (circuit_of true p (Fit c.args.pos.now c.args.neg.now)).clauses =
     rw c.in_ok-stated.ensures.stated.clauses at sat.1 in
     let examples : AreExamples p c.args.pos.now c.args.neg.now = record {
@@ -50,41 +50,29 @@ returns-in-Sat-clause-answer c =
       positives_stored = c.requires.examples.positives;
       negatives_stored = c.requires.examples.negatives;
     } in
-    let term : c.in_ok-term-in-Sat.term ≡ chosen_terms p v =
+    let term : c.in_ok-term-in-Found.term ≡ chosen_terms p v =
     rw (
       c.grammar.ensures.rules,
       c.grammar.ensures.starts,
-      c.in_ok-trees-in-Sat.ensures.trees,
+      c.in_ok-trees-in-Found.ensures.trees,
       c.in_ok-stated.ensures.template,
-    ) at c.in_ok-term-in-Sat.ensures in
+    ) at c.in_ok-term-in-Found.ensures in
     rw term (fits_are_chosen true p c.args.pos.now c.args.neg.now examples v satisfied)
 
-pub refutation-requires : goal.refutation-requires
-refutation-requires c =
-    let unsat = rw c.in-Unsat.is at c.in_ok-assignment.ensures.answer in
-    record {
-      refutes = unsat.0;
-      short = unsat.2;
-      few_clauses = c.in_ok-stated.ensures.stated.few_clauses;
-      few_chains = omega (arith, unsat.1, c.requires.most);
-    }
-
-pub returns-in-Unsat-clause-answer : goal.returns-in-Unsat-clause-answer
-returns-in-Unsat-clause-answer c =
+pub returns-in-Refuted-clause-answer : goal.returns-in-Refuted-clause-answer
+returns-in-Refuted-clause-answer c =
     let p = c.args.p.now in
     let q = Fit c.args.pos.now c.args.neg.now in
-    let kept = c.in_ok-kept-in-Unsat in
-    let unsat = rw c.in-Unsat.is at c.in_ok-assignment.ensures.answer in
-    let few : length kept.kept ≤ c.args.limit = omega (arith, unsat.1, kept.ensures.fewer) in
-    let refuted = refuted_by p q c.in_ok-stated.stated c.in_ok-stated.ensures.stated c.args.limit kept.kept
-    (kept.ensures.refutes, few, kept.ensures.short) in
+    let log = c.in-Refuted.log in
+    let refuted = refuted_by p q c.in_ok-stated.stated c.in_ok-stated.ensures.stated c.args.limit log
+    (rw c.in-Refuted.is at c.in_ok-assignment.ensures.answer) in
     let examples : AreExamples p c.args.pos.now c.args.neg.now = record {
       formed = c.keeps_limits.ensures.formed;
       positives_stored = c.requires.examples.positives;
       negatives_stored = c.requires.examples.negatives;
     } in (
       unsatisfied_fit_has_none true p c.args.pos.now c.args.neg.now examples
-          (c.refutations_are_sound.ensures (circuit_of true p q).clauses kept.kept refuted.refutes),
+          (c.refutations_are_sound.ensures (circuit_of true p q).clauses log refuted.refutes),
       refuted,
     )
 

@@ -1,21 +1,14 @@
-use Rattle.std.proofs.Common.{◌≡◌, ℕ, ◌-◌, Bool, [], ◌∷◌, Option, sym, Ok, Err, ap, ◌∙◌, rules, subst, arith, sum_by}
-use Rattle.std.proofs.Common.{true}
+use Rattle.std.proofs.Common.{◌≡◌, ◌-◌, [], ◌∷◌, true, sym, Ok, Err, ap, ◌∙◌, rules, arith, sum_by}
 use Rattle.std.proofs.lemmas.Result.{err_from_is_err_and}
 use Rattle.std.proofs.lemmas.List.Sums.{sum_by-append}
 use Rattle.am_bv.specs.Terms.{nodes}
-use Rattle.am_bv.specs.declared.op.Op.{Op}
-use Rattle.am_bv.specs.declared.term.Term.{Term}
 use Rattle.am_bv.specs.declared.term.Term.TheVariants.{Node}
-use Rattle.am_text.specs.Tokens.{Left}
 use Rattle.am_bv.proofs.Laws.{nodes-Node}
-use Rattle.am_syntax.specs.declared.refusal.Failure.TheVariants.{NoMemory, Refused}
 use Rattle.am_syntax.specs.Pieces.{times_from}
-use Rattle.am_syntax.specs.Names.{operator, operator_judge}
-use Rattle.am_syntax.specs.Readers.{Fails, Reached, done, judged, onward}
-use Rattle.am_syntax.specs.Spelling.{Scope, scope_of}
-use Rattle.am_syntax.specs.Terms.{head_judge, term_at}
-use Rattle.am_syntax.proofs.Advancing.{judged_advances, reached_here, reached_ok, reached_then, term_advances}
-use Rattle.am_syntax.proofs.Loops.{fails_on, makes_err, times_done, times_fails, times_more}
+use Rattle.am_syntax.specs.Readers.{done, onward}
+use Rattle.am_syntax.specs.Spelling.{scope_of}
+use Rattle.am_syntax.specs.Terms.{term_at}
+use Rattle.am_syntax.proofs.Loops.{makes_err, makes_refused, times_done, times_fails, times_more}
 use Rattle.am_syntax.proofs.TermSteps.{argument, head_is_one, sum_by-one, behind_op, close_node, term_behind, term_leaf}
 use Rattle.am_syntax.proofs.TermSteps.{term_node, term_refused}
 use Rattle.am_syntax.proofs.terms.+read_node.Goals as goal
@@ -23,7 +16,7 @@ use Rattle.am_syntax.proofs.terms.+read_node.Goals as goal
 pub returns-in_err-head-clause-term : goal.returns-in_err-head-clause-term
 returns-in_err-head-clause-term t c =
     let p = err_from_is_err_and c.from_residual.result c.from_residual.ensures.1 in
-    makes_err (λ t. t) c.args.text.now c.take_head.new.text _ (Refused c.in_err-head.field-0.0) c.from_residual.result
+    makes_refused (λ t. t) c.args.text.now c.take_head.new.text _ c.in_err-head.field-0.0 c.from_residual.result
     (p.1 ∙ ap Err p.2)
     (term_refused (scope_of c.args.w c.args.limits.now) c.args.inside c.args.depth c.args.room.now c.args.text.now
     (c.in_err-head.field-0.0, c.take_head.new.text) c.in_err-head.ensures.value)
@@ -32,38 +25,21 @@ pub returns-in_err-op-in-None-clause-term : goal.returns-in_err-op-in-None-claus
 returns-in_err-op-in-None-clause-term t c =
     let p = err_from_is_err_and c.from_residual-in_err-op-in-None.result c.from_residual-in_err-op-in-None.ensures.1 in
     let deep = c.in_ok-head.ensures.deeper (ap Ok c.in-None.is) in
-    makes_err (λ t. t) c.args.text.now c.take_operator.new.text _ (Refused c.in_err-op-in-None.field-0.0)
+    makes_refused (λ t. t) c.args.text.now c.take_operator.new.text _ c.in_err-op-in-None.field-0.0
     c.from_residual-in_err-op-in-None.result (p.1 ∙ ap Err p.2)
     (term_node (scope_of c.args.w c.args.limits.now) c.args.inside c.args.depth c.args.room.now c.args.text.now
     c.take_head.new.text deep (c.in_ok-head.ensures.value ∙ ap (λ h. Ok (h, c.take_head.new.text)) c.in-None.is)
     ∙ ap (onward (behind_op (argument (scope_of c.args.w c.args.limits.now) (c.args.depth - 1) (c.args.room.now - 1))))
     c.in_err-op-in-None.ensures)
 
--- the operator's name was read, so that the tokens behind it were reached
-behind_name : (scope : Scope) (inside : Bool) (depth room : ℕ) (s mid next : Left) (head : Option Term) (op : Op) →
-    judged (head_judge scope inside depth room) s ≡ Ok (head, mid) →
-    operator.read mid ≡ Ok (op, next) → Reached s next
-unfolding operator
-behind_name scope inside depth room s mid next head op first second =
-    reached_then s mid next
-    (reached_ok (judged (head_judge scope inside depth room)) s mid head
-    (judged_advances (head_judge scope inside depth room)) first)
-    (reached_ok operator.read mid next op (judged_advances operator_judge) second)
-
 pub arguments-init : goal.arguments-init
-arguments-init t c =
-    rw c.new-arguments.ensures (record {
-      reached = reached_here c.take_operator.new.text;
-      room = omega arith;
-      read = search rules;
-    })
+arguments-init t c = rw c.new-arguments.ensures (record { room = omega arith; read = search rules })
 
 pub returns-in_err-read_node-in-None-clause-term : goal.returns-in_err-read_node-in-None-clause-term
 returns-in_err-read_node-in-None-clause-term t c =
     let p =
     err_from_is_err_and c.from_residual-in_err-read_node-in-None.result
     c.from_residual-in_err-read_node-in-None.ensures.1 in
-    let e = c.in_err-read_node-in-None.field-0.0 in
     let left = c.read_node.new.text in
     let deep = c.in_ok-head.ensures.deeper (ap Ok c.in-None.is) in
     let op = c.in_ok-op-in-None.op in
@@ -71,40 +47,18 @@ returns-in_err-read_node-in-None-clause-term t c =
     let item = argument scope (c.args.depth - 1) (c.args.room.now - 1) in
     let n = c.arity-end.result in
     let behind = c.take_operator.new.text in
-    let k : c.arguments.room ≡ c.args.room.now - 1 - sum_by nodes c.arguments.arguments =
+    let k : c.args.room.now - 1 - sum_by nodes c.arguments.arguments ≡ c.arguments.room =
     omega (arith, c.arguments.invariant.room) in
-    let here : Fails e c.arguments.text left (item c.arguments.arguments c.arguments.text) =
-    subst (λ m. Fails e c.arguments.text left (term_at scope true (c.args.depth - 1) m c.arguments.text)) k
-    c.in_err-read_node-in-None.ensures.term in
-    let all =
-    times_fails item e n c.arguments.counter c.arguments.arguments behind c.arguments.text left
-    (times_from item n [] behind) c.arguments-test.true c.arguments.invariant.reached here c.arguments.invariant.read in
-    makes_err (λ t. t) c.args.text.now left (term_at scope c.args.inside c.args.depth c.args.room.now) e
-    c.from_residual-in_err-read_node-in-None.result (p.1 ∙ ap Err p.2)
-    (rw (term_behind scope c.args.inside c.args.depth c.args.room.now c.args.text.now c.take_head.new.text
+    makes_err (λ t. t) c.args.text.now left (term_at scope c.args.inside c.args.depth c.args.room.now)
+    c.in_err-read_node-in-None.field-0.0 c.from_residual-in_err-read_node-in-None.result (p.1 ∙ ap Err p.2)
+    (λ cause is.
+    term_behind scope c.args.inside c.args.depth c.args.room.now c.args.text.now c.take_head.new.text
     c.in_ok-head.head c.in_ok-head.ensures.value c.in-None.is deep op behind c.in_ok-op-in-None.ensures n
-    c.arity-end.ensures.value)
-    (fails_on e c.args.text.now behind left (times_from item n [] behind)
-    (onward (close_node op) (times_from item n [] behind))
-    (behind_name scope c.args.inside c.args.depth c.args.room.now c.args.text.now c.take_head.new.text behind
-    c.in_ok-head.head op c.in_ok-head.ensures.value c.in_ok-op-in-None.ensures)
-    (λ stop is. ap (onward (close_node op)) is) all))
-
-pub returns-in_err-push-in-None-clause-term : goal.returns-in_err-push-in-None-clause-term
-returns-in_err-push-in-None-clause-term t c =
-    let p =
-    err_from_is_err_and c.from_residual-in_err-push-in-None.result c.from_residual-in_err-push-in-None.ensures.1 in
-    let scope = scope_of c.args.w c.args.limits.now in
-    let behind = c.take_operator.new.text in
-    makes_err (λ t. t) c.args.text.now c.read_node.new.text (term_at scope c.args.inside c.args.depth c.args.room.now)
-    NoMemory c.from_residual-in_err-push-in-None.result (p.1 ∙ ap Err p.2)
-    (reached_then c.args.text.now behind c.read_node.new.text
-    (behind_name scope c.args.inside c.args.depth c.args.room.now c.args.text.now c.take_head.new.text behind
-    c.in_ok-head.head c.in_ok-op-in-None.op c.in_ok-head.ensures.value c.in_ok-op-in-None.ensures)
-    (reached_then behind c.arguments.text c.read_node.new.text c.arguments.invariant.reached
-    (reached_ok (term_at scope true (c.args.depth - 1) c.arguments.room) c.arguments.text c.read_node.new.text
-    c.in_ok-read_node-in-None.field-0 (term_advances scope true (c.args.depth - 1) c.arguments.room)
-    c.in_ok-read_node-in-None.ensures.term)))
+    c.arity-end.ensures.value
+    ∙ ap (onward (close_node op)) (times_fails item n c.arguments.counter c.arguments.arguments c.arguments.text
+    (cause, left) (times_from item n [] behind) c.arguments-test.true
+    (ap (λ m. term_at scope true (c.args.depth - 1) m c.arguments.text) k
+    ∙ c.in_err-read_node-in-None.ensures.term cause is) c.arguments.invariant.read))
 
 pub arguments-preserved : goal.arguments-preserved
 arguments-preserved t c =
@@ -117,11 +71,6 @@ arguments-preserved t c =
     ap (λ m. term_at scope true (c.args.depth - 1) m c.arguments.text) (sym k)
     ∙ c.in_ok-read_node-in-None.ensures.term in
     rw c.in_ok-push-in-None.ensures.ok (record {
-      reached =
-          reached_then c.take_operator.new.text c.arguments.text c.read_node.new.text c.arguments.invariant.reached
-          (reached_ok (term_at scope true (c.args.depth - 1) c.arguments.room) c.arguments.text c.read_node.new.text
-          c.in_ok-read_node-in-None.field-0 (term_advances scope true (c.args.depth - 1) c.arguments.room)
-          c.in_ok-read_node-in-None.ensures.term);
       room =
           omega (
             arith,
@@ -148,8 +97,8 @@ returns-in_err-take_closing-in-None-clause-term t c =
     let all =
     times_done item n c.arguments.counter c.arguments.arguments c.arguments.text _ c.arguments-test.false
     c.arguments.invariant.read in
-    makes_err (λ t. t) c.args.text.now c.take_closing.new.text _
-    (Refused e) c.from_residual-in_err-take_closing-in-None.result (p.1 ∙ ap Err p.2)
+    makes_refused (λ t. t) c.args.text.now c.take_closing.new.text _
+    e c.from_residual-in_err-take_closing-in-None.result (p.1 ∙ ap Err p.2)
     (term_behind (scope_of c.args.w c.args.limits.now) c.args.inside c.args.depth c.args.room.now c.args.text.now
     c.take_head.new.text c.in_ok-head.head c.in_ok-head.ensures.value c.in-None.is deep op c.take_operator.new.text
     c.in_ok-op-in-None.ensures n c.arity-end.ensures.value

@@ -3,7 +3,7 @@ use denote.Enum.Bare.{sameb}
 use Rattle.am_bv.specs.contracts.op.Op.{the_type}
 use Rattle.am_bv.specs.declared.term.Term.TheVariants.{Node as NodeTerm}
 use Rattle.am_tree.specs.declared.grammar.Production.TheVariants.{Node}
-use Rattle.am_tree.specs.inside.Matched.{Makes}
+use Rattle.am_tree.specs.inside.Matched.{Produces}
 use Rattle.am_tree.proofs.Matched.{node-parts, op-reflexive}
 use Rattle.am_tree.proofs.matching.children.Goals.{else-eq-via-then-eq+else-len, else-eq-via-else-eq}
 use Rattle.am_tree.proofs.matching.children.Goals as goal
@@ -14,7 +14,7 @@ returns-else-eq c = λ rules d found ts makes.
     let names = c.in-Node.names in
     let other = c.in-Node-term.other in
     let args = c.in-Node-term.args in
-    let made : Makes rules d (Node op names) (NodeTerm other args) ts = rw (c.in-Node.is, c.in-Node-term.is) at makes in
+    let made : Produces rules d (Node op names) (NodeTerm other args) ts = rw (c.in-Node.is, c.in-Node-term.is) at makes in
     let parts = node-parts rules d op names other args ts made in
     elim c.else-eq.branch [
       | else-eq-via-then-eq+else-len w ↦ w.if-len.false (w.len.ensures ∙ parts.long ∙ sym w.len-then-eq.ensures)

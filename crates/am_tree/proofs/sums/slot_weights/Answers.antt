@@ -4,7 +4,7 @@ use Rattle.std.proofs.lemmas.List.Elements.{All-push}
 use Rattle.am_tree.specs.declared.grammar.Production.{Production}
 use Rattle.am_tree.specs.Slots.{offered_by}
 use Rattle.am_tree.specs.Weights.{slot_weight}
-use Rattle.am_tree.specs.inside.Totals.{IsSmall}
+use Rattle.am_tree.specs.inside.Totals.{HasSmallLeaf}
 use Rattle.am_tree.proofs.Loops.{each-push}
 use Rattle.am_tree.proofs.sums.slot_weights.Goals as goal
 
@@ -18,7 +18,7 @@ pub slot_weight-requires-clause-small : goal.slot_weight-requires-clause-small
 slot_weight-requires-clause-small c =
     let ps = c.productions-item.result in
     let same = c.as_slice.ensures ∙ c.productions-item.is in
-    subst (λ (xs : List Production). All IsSmall xs) (sym same) (c.requires.small c.loop-productions.productions-index ps c.loop-productions-test.true)
+    subst (λ (xs : List Production). All HasSmallLeaf xs) (sym same) (c.requires.small c.loop-productions.productions-index ps c.loop-productions-test.true)
 
 pub loop-productions-preserved : goal.loop-productions-preserved
 loop-productions-preserved c =

@@ -14,9 +14,8 @@ children_sum-requires-clause-inside c =
     let rules = c.args.rules.now in
     let n = c.loop-n.n in
     let same = c.as_slice.ensures ∙ c.index-rules-n.is ∙ get_or_default rules n c.index-rules-n.result [] c.loop-n-test.true in
-    let k = length c.args.below.now in
-    subst (λ (ps : List Production). All (λ (a : Argument). a.symbol < k) (shared_by 1 ps)) (sym same)
-    (All-from_recursion (λ (a : Argument). a.symbol < k) (shared_by 1 (get_or rules n [])) (shared-inside k rules c.requires.inside n))
+    rw c.requires.below.len (subst (λ (ps : List Production). All (λ (a : Argument). a.symbol < length rules) (shared_by 1 ps)) (sym same)
+    (All-from_recursion (λ (a : Argument). a.symbol < length rules) (shared_by 1 (get_or rules n [])) (shared-inside (length rules) rules c.requires.rules.inside n)))
 
 pub loop-n-preserved : goal.loop-n-preserved
 loop-n-preserved c =

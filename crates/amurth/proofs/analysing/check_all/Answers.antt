@@ -2,7 +2,8 @@ use Rattle.std.proofs.Common.{Err, ap, subst, ◌∙◌}
 use Rattle.std.specs.Prelude.{All}
 use Rattle.std.proofs.lemmas.List.{take_all}
 use Rattle.std.proofs.lemmas.Result.{err_from_is_err_and}
-use Rattle.amurth.specs.inside.Analyses.{IsFailureAmong, IsProved}
+use Rattle.amurth.specs.Checked.{IsProved}
+use Rattle.amurth.specs.inside.Analyses.{IsFailureAmong}
 use Rattle.amurth.proofs.AnalysisDues.{All-more, failure_among, if_err}
 use Rattle.amurth.proofs.analysing.check_all.Goals as goal
 

@@ -1,10 +1,9 @@
-use Rattle.amurth.proofs.Dues.{at_text}
-use Rattle.amurth.specs.Listed.{IsListDue}
-use Rattle.amurth.specs.Synthesised.{IsProblemText}
-use Rattle.amurth.specs.declared.response.Response.{Response}
+use Rattle.am_problem.specs.Texts.{Reads, problem_of}
+use Rattle.amurth.proofs.Dues.{answered}
+use Rattle.amurth.specs.Listed.{IsListing}
 use Rattle.amurth.proofs.listing.listed.Goals as goal
 
 pub returns-in-Ok : goal.returns-in-Ok
 returns-in-Ok c =
-    at_text (λ input. IsProblemText input c.in-Ok.problem) (λ input (r : Response). IsListDue r.status input r.text.items)
-    c.best_listed.result c.args.input.now (record { short = c.requires; reads = c.in-Ok.ensures.found }) c.best_listed.ensures
+    answered Reads problem_of IsListing c.args.input.now c.in-Ok.problem
+    (record { short = c.requires; reads = c.in-Ok.ensures.found }) c.best_listed.result c.best_listed.ensures

@@ -1,10 +1,7 @@
-use Rattle.std.proofs.Common.{inl}
 use Rattle.amurth.proofs.synthesising.certified.Goals as goal
 
 pub returns : goal.returns
-returns c = λ input text. inl (record {
-  problem = c.args.problem;
-  text = text;
+returns c = record {
   outcome = c.in_ok-outcome.outcome;
   synthesis = record {
     synthesis = c.in_ok-outcome.ensures.answer;
@@ -13,4 +10,4 @@ returns c = λ input text. inl (record {
     ended = c.status_of-status.ensures;
   };
   wrote = c.in_ok-text.ensures;
-})
+}

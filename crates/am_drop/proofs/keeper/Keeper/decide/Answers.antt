@@ -31,7 +31,7 @@ returns-in-Found-clause-answer c =
     rw c.in_ok-push-in-Found.ensures.ok (selected_further c.args.self.now c.requires.keeper c.args.place
     c.get-example.result.now c.get-example.ensures c.args.selection.now c.requires.selection c.in-Found.term found.0 found.1)
 
-pub returns-in-Nothing-clause-answer : goal.returns-in-Nothing-clause-answer
-returns-in-Nothing-clause-answer c =
-    let nothing = rw c.in-Nothing.is at c.in_ok-term.ensures.answer in
+pub returns-in-Refuted-clause-answer : goal.returns-in-Refuted-clause-answer
+returns-in-Refuted-clause-answer c =
+    let nothing = rw c.in-Refuted.is at c.in_ok-term.ensures.answer in
     not_selected c.args.self.now c.args.place c.args.selection.now c.requires.selection nothing.0

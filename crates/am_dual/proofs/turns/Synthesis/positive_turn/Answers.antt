@@ -1,3 +1,4 @@
+use Rattle.std.proofs.Common.{inl, refl}
 use Rattle.am_dual.proofs.Ending.{keep_spent, nothing_suits}
 use Rattle.am_dual.proofs.Turning.{after_positive, fitted}
 use Rattle.am_dual.proofs.turns.Synthesis.positive_turn.Goals as goal
@@ -28,6 +29,6 @@ returns-in-Spent c =
     let pushed = rw c.copy.ensures at c.in_ok-push.ensures.ok in
     let answer = rw (c.limit.ensures.value, c.in-Spent.is, pushed) at c.in_ok-places.ensures.answer in
     let enough = rw (c.limit.ensures.value, c.in-Spent.is) at c.in_ok-places.ensures.enough in
-    rw c.spent.ensures
-    (keep_spent c.args.p.now c.args.self c.in-Spent.log c.requires.underway c.args.example c.in-Spent.places
-    c.requires.uncovered answer.0 answer.1 (λ h. enough h tt))
+    let ends = keep_spent c.args.p.now c.args.self c.in-Spent.log c.requires.underway c.args.example c.in-Spent.places
+    c.requires.uncovered answer.0 answer.1 (λ h. enough h tt) in
+    rw c.spent.ensures (ends, inl refl)

@@ -1,7 +1,7 @@
 use Rattle.std.proofs.Common.{◌≡◌, subst, arith}
 use Rattle.am_problem.specs.Examples.{all_fields}
 use Rattle.am_problem.specs.Limits.{IsProblem}
-use Rattle.am_query.proofs.Closer.{closer_inputs, closer_stated, inputs_stand, room_behind, room_for_comparing}
+use Rattle.am_query.proofs.CloserTransformers.{closer_inputs, closer_stated, inputs_stand, room_behind, room_for_comparing}
 use Rattle.am_query.proofs.statements.Statements.closer.Goals as goal
 
 pub comparing-requires-clause-room : goal.comparing-requires-clause-room

@@ -2,9 +2,15 @@ use Rattle.std.proofs.Common.{◌≡◌, ℕ, ◌-◌, ◌<◌, ◌∙◌, sym, 
 use Rattle.std.specs.Prelude.{slice_index}
 use Rattle.std.proofs.lemmas.List.Elements.{recursion_from_All}
 use Rattle.am_tree.proofs.Bounds.{index-most}
-use Rattle.am_tree.proofs.Formed.{inside}
+use Rattle.am_tree.proofs.Formed.{bounds, inside}
 use Rattle.am_tree.proofs.Totals.{weight_at, total-same, total-ones, total-weights, total-most}
 use Rattle.am_tree.proofs.grammar.Grammar.block_weight.Goals as goal
+
+pub slot_weights-requires : goal.slot_weights-requires
+slot_weights-requires c = rw c.as_slice-rules.ensures (bounds c.args.self.now.well_formed)
+
+pub slot_weights-requires-2 : goal.slot_weights-requires-2
+slot_weights-requires-2 c = rw c.as_slice-rules.ensures (bounds c.args.self.now.well_formed)
 
 pub returns-clause-value : goal.returns-clause-value
 returns-clause-value c =
@@ -26,6 +32,6 @@ returns-clause-most c =
       arith,
       c.total.ensures,
       total-most g.rules (slice_index c.slot_weights.result.items) (slice_index c.slot_weights-2.result.items)
-          (index-most 2097152 c.slot_weights.result.items c.slot_weights.ensures.most) (index-most 2097152 c.slot_weights-2.result.items c.slot_weights-2.ensures.most) (g.depth - 1) g.starts,
+          (index-most 2097152 c.slot_weights.result.items c.slot_weights.ensures.numbers.most) (index-most 2097152 c.slot_weights-2.result.items c.slot_weights-2.ensures.numbers.most) (g.depth - 1) g.starts,
       total-ones g.rules (g.depth - 1) 1 0 g.starts,
     )

@@ -1,4 +1,5 @@
-use Rattle.std.proofs.Common.{◌≡◌, ℕ, ◌+◌, ◌-◌, ◌<◌, ◌≤◌, List, [], ◌∷◌, All, length, get_or, sum_by, sym, ◌∙◌, ap, arith}
+use Rattle.std.proofs.Common.{◌≡◌, ℕ, ◌+◌, ◌-◌, ◌^◌, ◌<◌, ◌≤◌, List, [], ◌∷◌, All, length, get_or, sum_by, sym, ◌∙◌, ap}
+use Rattle.std.proofs.Common.{arith}
 use Rattle.std.specs.Prelude.{slice_index}
 use Rattle.std.proofs.lemmas.List.{get_or_default, take_all}
 use Rattle.std.proofs.lemmas.List.Elements.{recursion_from_All}
@@ -6,32 +7,34 @@ use Rattle.std.proofs.lemmas.List.Sums.{sum_by_more}
 use Rattle.am_tree.specs.declared.grammar.Production.{Production}
 use Rattle.am_tree.specs.declared.slots.Argument.{Argument}
 use Rattle.am_tree.specs.Slots.{arguments, shared_by}
-use Rattle.am_tree.specs.inside.Totals.{total}
+use Rattle.am_tree.specs.inside.Totals.{total, AreNumbers}
 use Rattle.am_tree.proofs.Bounds.{bound, bound-most, bound-next, few-children, index-most}
-use Rattle.am_tree.proofs.Formed.{inside, each-short, each-few}
+use Rattle.am_tree.proofs.Formed.{bounds, inside, each-short, each-few}
 use Rattle.am_tree.proofs.Inside.{shared-inside}
 use Rattle.am_tree.proofs.Totals.{total-sum, total-one, total-last, sum-same, children-same}
 use Rattle.am_tree.proofs.grammar.Grammar.total.Goals as goal
 
 pub loop-init : goal.loop-init
 loop-init c = record {
-  len = c.requires.lens.0;
+  len = c.requires.last.len;
   sums = λ n l. sym (total-last c.args.self.now.rules (slice_index c.args.last.items) (slice_index c.args.inner.items) n);
-  most = c.requires.last;
+  most = c.requires.last.most;
 }
 
-pub sums_above-sums-requires-clause-short : goal.sums_above-sums-requires-clause-short
-sums_above-sums-requires-clause-short c = rw c.as_slice.ensures (each-short c.args.self.now.well_formed)
+pub sums_above-sums-requires-clause-rules : goal.sums_above-sums-requires-clause-rules
+sums_above-sums-requires-clause-rules c = rw c.as_slice.ensures (bounds c.args.self.now.well_formed)
 
-pub sums_above-sums-requires-clause-inside : goal.sums_above-sums-requires-clause-inside
-sums_above-sums-requires-clause-inside c =
-    let g = c.args.self.now in
-    rw (c.as_slice-in-loop-2.ensures.value, c.as_slice.ensures, c.loop.invariant.len) (inside g.rules g.starts g.depth g.well_formed)
+pub sums_above-sums-requires-clause-inner : goal.sums_above-sums-requires-clause-inner
+sums_above-sums-requires-clause-inner c = rw (c.as_slice-in-loop.ensures.value, c.as_slice.ensures) c.requires.inner
 
 pub sums_above-sums-requires-clause-below : goal.sums_above-sums-requires-clause-below
 sums_above-sums-requires-clause-below c =
     let few : c.loop.counter ≤ 4 = omega (arith, c.loop-test.true, c.args.self.now.well_formed.most_depth) in
-    rw c.as_slice-in-loop-2.ensures.value (λ k d l. omega (arith, c.loop.invariant.most k d l, bound-most c.loop.counter few))
+    let numbers : AreNumbers (length c.args.self.now.rules) (2 ^ 53) c.loop.sums.items = record {
+      len = c.loop.invariant.len;
+      most = λ k d l. omega (arith, c.loop.invariant.most k d l, bound-most c.loop.counter few);
+    } in
+    rw (c.as_slice-in-loop-2.ensures.value, c.as_slice.ensures) numbers
 
 pub loop-preserved : goal.loop-preserved
 loop-preserved c =
@@ -59,7 +62,7 @@ loop-preserved c =
             arith,
             get_or_default c.sums_above-sums.result.items n d 0 l,
             each n under,
-            bound-next (inner n) (λ (a : Argument). slice_index sums a.symbol) (shared_by 1 ps) b (index-most 2097152 c.args.inner.items c.requires.inner n) (λ a. index-most (bound b) sums c.loop.invariant.most a.symbol) kids,
+            bound-next (inner n) (λ (a : Argument). slice_index sums a.symbol) (shared_by 1 ps) b (index-most 2097152 c.args.inner.items c.requires.inner.most n) (λ a. index-most (bound b) sums c.loop.invariant.most a.symbol) kids,
           );
     }
 

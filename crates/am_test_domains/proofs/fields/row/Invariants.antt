@@ -1,5 +1,0 @@
-use Rattle.am_bv.specs.Words.{AreWords}
-use Rattle.am_test_domains.proofs.fields.row.Given as goal
-
-abbrev pub invariant-loop-byte : goal.invariant-loop-byte
-invariant-loop-byte l = AreWords l.w l.row

@@ -1,6 +1,0 @@
-use Rattle.std.specs.Prelude.{All}
-use Rattle.am_problem.specs.Examples.{IsPositive}
-use Rattle.am_test_queries.proofs.queries.positives.Given as goal
-
-abbrev pub invariant-loop-word : goal.invariant-loop-word
-invariant-loop-word g l = All (IsPositive l.fn.p) l.positives
