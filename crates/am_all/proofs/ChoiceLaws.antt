@@ -22,7 +22,7 @@ pub map-map : {A B C : Type 0} (f : B → C) (g : A → B) (xs : List A) → map
 map-map f g [] = refl
 map-map f g (x ∷ xs) = ap (λ ys. f (g x) ∷ ys) (map-map f g xs)
 
--- each of the rows with each of the items behind it
+-- each of the rows with each of the items after it
 abbrev pub extended : {A : Type 0} → List A → List (List A) → List (List A)
 extended xs rows = flat_map (λ row. map (λ x. row ++ x ∷ []) xs) rows
 

@@ -24,7 +24,7 @@ pub fn choices<'a, T>(alloc: Global, lists: &[&'a [T]]) -> Result<Row<Choice<'a,
     Ok(rows)
 }
 
-/// Each of the rows with each of the items behind it.
+/// Each of the rows with each of the items after it.
 fn longer<'a, T>(
     alloc: Global,
     rows: &[Choice<'a, T>],
@@ -40,7 +40,7 @@ fn longer<'a, T>(
     Ok(longer)
 }
 
-/// Puts the row with each of the items behind it at the end of the rows.
+/// Puts the row with each of the items after it at the end of the rows.
 fn push_longer<'a, T>(
     alloc: Global,
     rows: &mut Row<Choice<'a, T>>,

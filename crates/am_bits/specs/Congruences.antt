@@ -13,9 +13,11 @@ use Rattle.am_bv.specs.Terms.{unary, binary}
 use Rattle.am_domain.specs.Abstraction.{Abstraction}
 use Rattle.am_domain.specs.Meaning.{Meaning}
 
+-- the modulus less one: the bits that are fixed
 abbrev pub mask : List ℕ → ℕ
 mask a = slice_index a 0
 
+-- what each member leaves modulo m + 1
 abbrev pub residue : List ℕ → ℕ
 residue a = slice_index a 1
 

@@ -11,9 +11,11 @@ use Rattle.am_bv.specs.Terms.{binary}
 use Rattle.am_domain.specs.Abstraction.{Abstraction}
 use Rattle.am_domain.specs.Meaning.{Meaning}
 
+-- the bits that are known to be 0
 abbrev pub zeros : List ℕ → ℕ
 zeros a = slice_index a 0
 
+-- the bits that are known to be 1
 abbrev pub ones : List ℕ → ℕ
 ones a = slice_index a 1
 

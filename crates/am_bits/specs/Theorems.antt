@@ -6,13 +6,14 @@ use Rattle.am_bits.specs.Congruences.{mask, residue, IsCongruence, IsCongruent, 
 abbrev pub MembersLeaveResidue : Type 0
 MembersLeaveResidue = (w : ℕ) (a : List ℕ) (c : ℕ) → IsCongruence w a → IsCongruent a c ↔ (c % (mask a + 1) ≡ residue a)
 
--- the low ones of a number are one less than a power of two, their bits are all in the number, and no such number
--- is greater
+-- the low ones of a number are one less than a power of two
 abbrev pub LowIsMask : Type 0
 LowIsMask = (x : ℕ) → (j : ℕ) × (low x + 1 ≡ 2 ^ j)
 
+-- their bits are all in the number
 abbrev pub LowIsWithin : Type 0
 LowIsWithin = (x : ℕ) → bit_and x (low x) ≡ low x
 
+-- no number that is one less than a power of two, and whose bits are all in the number, is greater
 abbrev pub LowIsGreatest : Type 0
 LowIsGreatest = (x j : ℕ) → bit_and x (2 ^ j - 1) ≡ 2 ^ j - 1 → 2 ^ j - 1 ≤ low x

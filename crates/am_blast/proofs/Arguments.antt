@@ -15,13 +15,16 @@ with_one P h [] e = absurd (omega arith)
 with_one P h (a ∷ []) e = h a
 with_one P h (a ∷ b ∷ args) e = absurd (omega arith)
 
-pub with_two : {A : Type 0} (P : List A → Type 0) → ((a b : A) → P (a ∷ b ∷ [])) → (args : List A) → length args ≡ 2 → P args
+pub with_two : {A : Type 0} (P : List A → Type 0) → ((a b : A) → P (a ∷ b ∷ [])) → (args : List A) → length args ≡ 2 →
+    P args
 with_two P h [] e = absurd (omega arith)
 with_two P h (a ∷ []) e = absurd (omega arith)
 with_two P h (a ∷ b ∷ []) e = h a b
 with_two P h (a ∷ b ∷ c ∷ args) e = absurd (omega arith)
 
-pub with_three : {A : Type 0} (P : List A → Type 0) → ((a b c : A) → P (a ∷ b ∷ c ∷ [])) → (args : List A) → length args ≡ 3 → P args
+pub with_three : {A : Type 0} (P : List A → Type 0) → ((a b c : A) → P (a ∷ b ∷ c ∷ [])) → (args : List A) →
+    length args ≡ 3 →
+    P args
 with_three P h [] e = absurd (omega arith)
 with_three P h (a ∷ []) e = absurd (omega arith)
 with_three P h (a ∷ b ∷ []) e = absurd (omega arith)
@@ -31,19 +34,24 @@ with_three P h (a ∷ b ∷ c ∷ d ∷ args) e = absurd (omega arith)
 -- that the circuit reads as the operator's value, and that it makes its gates
 module _ (w : ℕ) (op : Op) where
   abbrev HasMeaning : (ℕ → Bool) → List (List ℕ) → Type 0
-  HasMeaning v args = All (λ a. length a ≡ w) args → Means v (circuit_of w op args) (ReadsAs v w (apply w op (map (reads v) args)))
+  HasMeaning v args =
+      All (λ a. length a ≡ w) args → Means v (circuit_of w op args) (ReadsAs v w (apply w op (map (reads v) args)))
 
   abbrev HasGates : Place → List (List ℕ) → Type 0
   HasGates p args = All (IsWord w p.next) args → MakesGates (circuit_of w op args) (weight_of w op) (IsWord w) p
 
   -- the circuit of an operator of one argument, from its meaning and its gates
   pub of_one : arity op ≡ 1 →
-      ((v : ℕ → Bool) (a : List ℕ) → length a ≡ w → Means v (circuit_at w op a [] []) (ReadsAs v w (apply_at w op (reads v a) 0 0))) →
-      ((p : Place) (a : List ℕ) → 0 < p.next → IsWord w p.next a → MakesGates (circuit_at w op a [] []) (weight_of w op) (IsWord w) p) →
+      ((v : ℕ → Bool) (a : List ℕ) → length a ≡ w →
+      Means v (circuit_at w op a [] []) (ReadsAs v w (apply_at w op (reads v a) 0 0))) →
+      ((p : Place) (a : List ℕ) → 0 < p.next → IsWord w p.next a →
+      MakesGates (circuit_at w op a [] []) (weight_of w op) (IsWord w) p) →
       IsCircuitOf w op
   of_one one means makes = record {
-    means = λ v args count. with_one (HasMeaning v) (λ a h. means v a (All-head (λ x. length x ≡ w) a [] h)) args (rw one at count);
-    makes = λ p args pos count. with_one (HasGates p) (λ a h. makes p a pos (All-head (IsWord w p.next) a [] h)) args (rw one at count);
+    means = λ v args count.
+        with_one (HasMeaning v) (λ a h. means v a (All-head (λ x. length x ≡ w) a [] h)) args (rw one at count);
+    makes = λ p args pos count.
+        with_one (HasGates p) (λ a h. makes p a pos (All-head (IsWord w p.next) a [] h)) args (rw one at count);
   }
 
   -- the circuit of an operator of two arguments, from its meaning and its gates
@@ -55,9 +63,13 @@ module _ (w : ℕ) (op : Op) where
       IsCircuitOf w op
   of_two two means makes = record {
     means = λ v args count. with_two (HasMeaning v)
-        (λ a b h. means v a b (All-head (λ x. length x ≡ w) a (b ∷ []) h) (All-head (λ x. length x ≡ w) b [] (All-tail (λ x. length x ≡ w) a (b ∷ []) h))) args (rw two at count);
+        (λ a b h. means v a b (All-head (λ x. length x ≡ w) a (b ∷ []) h)
+        (All-head (λ x. length x ≡ w) b [] (All-tail (λ x. length x ≡ w) a (b ∷ []) h)))
+        args (rw two at count);
     makes = λ p args pos count. with_two (HasGates p)
-        (λ a b h. makes p a b pos (All-head (IsWord w p.next) a (b ∷ []) h) (All-head (IsWord w p.next) b [] (All-tail (IsWord w p.next) a (b ∷ []) h))) args (rw two at count);
+        (λ a b h. makes p a b pos (All-head (IsWord w p.next) a (b ∷ []) h)
+        (All-head (IsWord w p.next) b [] (All-tail (IsWord w p.next) a (b ∷ []) h)))
+        args (rw two at count);
   }
 
   -- the circuit of an operator of three arguments, from its meaning and its gates

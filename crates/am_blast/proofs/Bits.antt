@@ -1,10 +1,12 @@
 -- Gates at each bit of two words.
-use Rattle.std.proofs.Common.{◌≡◌, ℕ, suc, ◌+◌, ◌*◌, ◌<◌, ◌≤◌, Bool, true, false, not, ◌&&◌, cond, List, [], ◌∷◌, length, drop, get_or, refl, ap, arith}
+use Rattle.std.proofs.Common.{◌≡◌, ℕ, suc, ◌+◌, ◌*◌, ◌<◌, ◌≤◌, Bool, true, false, not, ◌&&◌, cond, List, [], ◌∷◌}
+use Rattle.std.proofs.Common.{length, drop, get_or, refl, ap, arith}
 use Rattle.std.proofs.lemmas.List.{drop_all}
 use Rattle.am_gate.specs.Circuit.{Net, IsLiteral}
 use Rattle.am_gate.specs.Build.{Step, Place, Means, Follows}
 use Rattle.am_lit.proofs.Laws.{literal_value-opposite_of}
-use Rattle.am_gate.proofs.Laws.{IsLiteral-opposite, Means-and, Means-bind, Means-answer, Means-mux, Means-weaker, Follows-bind, Follows-answer, Makes-bind, Makes-answer, Makes-and, Makes-xor, Makes-mux}
+use Rattle.am_gate.proofs.Laws.{IsLiteral-opposite, Means-and, Means-bind, Means-answer, Means-mux, Means-weaker}
+use Rattle.am_gate.proofs.Laws.{Follows-bind, Follows-answer, Makes-bind, Makes-answer, Makes-and, Makes-xor, Makes-mux}
 use Rattle.am_gate.specs.Promises.{MakesGates}
 use Rattle.am_lit.specs.Literal.{opposite_of}
 use Rattle.std.specs.Prelude.{All}
@@ -17,11 +19,14 @@ use Rattle.am_blast.specs.Bitwise.{either, gate_of, bitwise, choice, IsOver}
 use Rattle.am_blast.proofs.Words.{first_inside, others_inside, All-later, drop-from}
 
 -- at least one of two literals
-pub Means-either : (v : ℕ → Bool) (a b : ℕ) → Means v (either a b) (λ l. literal_value v l ≡ not (not (literal_value v a) && not (literal_value v b)))
+pub Means-either : (v : ℕ → Bool) (a b : ℕ) →
+    Means v (either a b) (λ l. literal_value v l ≡ not (not (literal_value v a) && not (literal_value v b)))
 unfolding either
 Means-either v a b =
     Means-bind _ (Means-and v (opposite_of a) (opposite_of b))
-    (λ neither h. Means-answer _ (rw (literal_value-opposite_of v neither, h, literal_value-opposite_of v a, literal_value-opposite_of v b) refl))
+    (λ neither h. Means-answer _
+    (rw (literal_value-opposite_of v neither, h, literal_value-opposite_of v a, literal_value-opposite_of v b)
+    refl))
 
 -- a gate at each bit reads as a number that is made bit by bit
 pub Means-bitwise : (v : ℕ → Bool) (gate : Gate) (value : Bool → Bool → Bool) (number : ℕ → ℕ → ℕ) → 0 ≡ number 0 0 →
@@ -44,7 +49,9 @@ Means-bitwise v gate value number none more means (x ∷ xs) (y ∷ ys) e =
 -- the word a where c is true, else the word b
 pub Means-choose : (v : ℕ → Bool) (c : ℕ) (xs ys : List ℕ) → length ys ≡ length xs →
     Means v (bitwise (Choose c) xs ys) (ReadsAs v (length xs) (cond (literal_value v c) (reads v xs) (reads v ys)))
-Means-choose v c = Means-bitwise v (Choose c) (cond (literal_value v c)) (cond (literal_value v c)) (none (literal_value v c)) (choose (literal_value v c)) (Means-mux v c)
+Means-choose v c =
+    Means-bitwise v (Choose c) (cond (literal_value v c)) (cond (literal_value v c)) (none (literal_value v c))
+    (choose (literal_value v c)) (Means-mux v c)
   where
     none : (b : Bool) → ◌≡◌ {A = ℕ} 0 (cond b 0 0)
     none true = refl
@@ -63,13 +70,18 @@ Means-choice v test holds xs ys e means =
     Means-bind _ means (λ c h. Means-weaker (Means-choose v c xs ys e) (λ r k. rw (← h) k))
 
 -- a disjunction is at most one gate
-pub Makes-either : (a b : ℕ) (p : Place) → IsLiteral p.next a → IsLiteral p.next b → MakesGates (either a b) 1 IsLiteral p
+pub Makes-either : (a b : ℕ) (p : Place) → IsLiteral p.next a → IsLiteral p.next b →
+    MakesGates (either a b) 1 IsLiteral p
 unfolding either
 Makes-either a b p ha hb =
-    Makes-bind _ 0 (Makes-and (opposite_of a) (opposite_of b) p (IsLiteral-opposite p.next a ha) (IsLiteral-opposite p.next b hb)) refl
+    Makes-bind _ 0
+    (Makes-and (opposite_of a) (opposite_of b) p (IsLiteral-opposite p.next a ha)
+    (IsLiteral-opposite p.next b hb))
+    refl
     (λ neither q l h. Makes-answer _ (IsLiteral-opposite q.next neither h))
 
-Makes-gate : (g : Gate) (a b : ℕ) (p : Place) → IsOver p.next g → IsLiteral p.next a → IsLiteral p.next b → MakesGates (gate_of g a b) 1 IsLiteral p
+Makes-gate : (g : Gate) (a b : ℕ) (p : Place) → IsOver p.next g → IsLiteral p.next a → IsLiteral p.next b →
+    MakesGates (gate_of g a b) 1 IsLiteral p
 Makes-gate Both a b p h ha hb = Makes-and a b p ha hb
 Makes-gate Either a b p h ha hb = Makes-either a b p ha hb
 Makes-gate Differ a b p h ha hb = Makes-xor a b p ha hb
@@ -82,14 +94,16 @@ IsOver-later Differ m n l h = tt
 IsOver-later (Choose c) m n l h = omega arith
 
 -- a gate for each bit
-pub Makes-bitwise : (g : Gate) (xs ys : List ℕ) (p : Place) → length ys ≡ length xs → IsOver p.next g → All (IsLiteral p.next) xs → All (IsLiteral p.next) ys →
+pub Makes-bitwise : (g : Gate) (xs ys : List ℕ) (p : Place) → length ys ≡ length xs → IsOver p.next g →
+    All (IsLiteral p.next) xs → All (IsLiteral p.next) ys →
     MakesGates (bitwise g xs ys) (length xs) (IsWord (length xs)) p
 unfolding bitwise
 Makes-bitwise g [] [] p e h hx hy = Makes-answer _ (record { bits = refl; inside = All-nil (IsLiteral p.next) })
 Makes-bitwise g [] (y ∷ ys) p e h hx hy = absurd (omega arith)
 Makes-bitwise g (x ∷ xs) [] p e h hx hy = absurd (omega arith)
 Makes-bitwise g (x ∷ xs) (y ∷ ys) p e h hx hy =
-    Makes-bind _ (length xs) (Makes-gate g x y p h (first_inside p.next x xs hx) (first_inside p.next y ys hy)) (omega arith)
+    Makes-bind _ (length xs) (Makes-gate g x y p h (first_inside p.next x xs hx) (first_inside p.next y ys hy))
+    (omega arith)
     (λ first q l f. Makes-bind _ 0
     (Makes-bitwise g xs ys q (omega arith) (IsOver-later g p.next q.next (omega arith) h)
     (others_inside p.next q.next x xs (omega arith) hx) (others_inside p.next q.next y ys (omega arith) hy))
@@ -100,12 +114,14 @@ Makes-bitwise g (x ∷ xs) (y ∷ ys) p e h hx hy =
     })))
 
 -- the gates of the test, and one for each bit
-pub Makes-choice : (test : Step ℕ) (k : ℕ) (xs ys : List ℕ) (p : Place) → length ys ≡ length xs → All (IsLiteral p.next) xs → All (IsLiteral p.next) ys →
+pub Makes-choice : (test : Step ℕ) (k : ℕ) (xs ys : List ℕ) (p : Place) → length ys ≡ length xs →
+    All (IsLiteral p.next) xs → All (IsLiteral p.next) ys →
     MakesGates test k IsLiteral p → MakesGates (choice test xs ys) (k + length xs) (IsWord (length xs)) p
 unfolding choice
 Makes-choice test k xs ys p e hx hy makes =
     Makes-bind _ (length xs) makes refl
-    (λ c q l h. Makes-bitwise (Choose c) xs ys q e h (All-later p.next q.next xs (omega arith) hx) (All-later p.next q.next ys (omega arith) hy))
+    (λ c q l h. Makes-bitwise (Choose c) xs ys q e h (All-later p.next q.next xs (omega arith) hx)
+    (All-later p.next q.next ys (omega arith) hy))
 
 -- one more bit of a row of gates
 pub Follows-bitwise_at : (gate : Gate) (i a b : ℕ) (xs ys : List ℕ) (n m end : Net) (g : ℕ) (rest : List ℕ) →
@@ -118,6 +134,7 @@ Follows-bitwise_at gate i a b xs ys n m end g rest lx ly ea eb one more =
     (Follows-bind _ one (Follows-bind _ more Follows-answer))
 
 -- a gate at each of no more bits makes nothing
-pub Follows-bitwise_end : (gate : Gate) (i : ℕ) (xs ys : List ℕ) (n : Net) → length xs ≤ i → Follows (bitwise gate (drop i xs) (drop i ys)) n [] n
+pub Follows-bitwise_end : (gate : Gate) (i : ℕ) (xs ys : List ℕ) (n : Net) → length xs ≤ i →
+    Follows (bitwise gate (drop i xs) (drop i ys)) n [] n
 unfolding bitwise
 Follows-bitwise_end gate i xs ys n l = rw (drop_all i xs l) Follows-answer

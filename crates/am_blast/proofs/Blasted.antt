@@ -1,5 +1,6 @@
 -- The circuit of a term reads as its value, and has as many gates as it weighs.
-use Rattle.std.proofs.Common.{◌≡◌, ℕ, zero, suc, ◌+◌, ◌-◌, ◌/◌, ◌%◌, ◌^◌, ◌<◌, ◌≤◌, Bool, true, false, cond, List, [], ◌∷◌, map, length, drop, get_or, sum_by, eqb, refl, sym, ◌∙◌, ap, arith, subst}
+use Rattle.std.proofs.Common.{◌≡◌, ℕ, zero, suc, ◌+◌, ◌-◌, ◌/◌, ◌%◌, ◌^◌, ◌<◌, ◌≤◌, Bool, true, false, cond, List, []}
+use Rattle.std.proofs.Common.{◌∷◌, map, length, drop, get_or, sum_by, eqb, refl, sym, ◌∙◌, ap, arith, subst}
 use Rattle.std.specs.Prelude.{◌==◌, All, IsTrue, slice_index_or}
 use Rattle.std.specs.List.{AllByRecursion, list_all}
 use Rattle.std.proofs.Math.Nat.{pow-succ'}
@@ -12,7 +13,8 @@ use Rattle.std.proofs.lemmas.List.Elements.{All-nil, All-cons}
 use Rattle.am_gate.specs.Circuit.{Net, truth, falsity, AreScoped, IsLiteral}
 use Rattle.am_gate.specs.Value.{Meets}
 use Rattle.am_gate.specs.Build.{Step, Place, place_of, AreGates, ◌>>=◌, answer, Means, Follows}
-use Rattle.am_gate.proofs.Laws.{Makes-extend, Means-bind, Means-answer, Means-truth, Follows-bind, Follows-answer, Makes-bind, Makes-answer, Makes-exactly}
+use Rattle.am_gate.proofs.Laws.{Makes-extend, Means-bind, Means-answer, Means-truth, Follows-bind, Follows-answer}
+use Rattle.am_gate.proofs.Laws.{Makes-bind, Makes-answer, Makes-exactly}
 use Rattle.am_gate.specs.Promises.{MakesGates}
 use Rattle.am_lit.specs.Truth.{literal_value}
 use Rattle.am_bv.specs.declared.op.Op.{Op}
@@ -21,7 +23,8 @@ use Rattle.am_bv.specs.declared.term.Term.TheOpen.{Const as Const-F, Field as Fi
 use Rattle.am_bv.specs.declared.term.Term.TheVariants.{Const, Field, Node, outs-Const, outs-Field, outs-Node}
 use Rattle.am_bv.specs.Operators.{arity, weight_of}
 use Rattle.am_bv.specs.Terms.{val, fits, weight}
-use Rattle.am_bv.proofs.Laws.{Steps, by_induction, fold_at, val-Const, val-Field, val-Node, fits-Const, fits-Field, fits-Node, fits_arity, weight-Const, weight-Field, weight-Node}
+use Rattle.am_bv.proofs.Laws.{Steps, by_induction, fold_at, val-Const, val-Field, val-Node, fits-Const, fits-Field}
+use Rattle.am_bv.proofs.Laws.{fits-Node, fits_arity, weight-Const, weight-Field, weight-Node}
 use Rattle.am_blast.specs.Words.{bit, reads, ReadsAs, IsWord, constant}
 use Rattle.am_blast.specs.Circuits.{circuit_of, in_turn, blast_step, blasted}
 use Rattle.am_blast.proofs.Words.{value-truth, value-falsity, IsWord-later, drop-from}
@@ -35,7 +38,8 @@ unfolding blasted
 blasted-Const w fields c = fold_at (blast_step w fields) (Const c) (Const-F c) (outs-Const c)
 
 -- the circuit of a field
-pub blasted-Field : (w : ℕ) (fields : List (List ℕ)) (i : ℕ) → blasted w fields (Field i) ≡ answer (slice_index_or fields i [])
+pub blasted-Field : (w : ℕ) (fields : List (List ℕ)) (i : ℕ) →
+    blasted w fields (Field i) ≡ answer (slice_index_or fields i [])
 unfolding blasted
 blasted-Field w fields i = fold_at (blast_step w fields) (Field i) (Field-F i) (outs-Field i)
 
@@ -52,7 +56,8 @@ pub length-constant : (w c : ℕ) → length (constant w c) ≡ w
 length-constant zero c = refl
 length-constant (suc w) c = ap suc (length-constant w (c / 2))
 
-constant-bit : (v : ℕ → Bool) (c : ℕ) → IsTrue (v 0) → bit (literal_value v (cond (eqb (c % 2) 0) falsity truth)) ≡ c % 2
+constant-bit : (v : ℕ → Bool) (c : ℕ) → IsTrue (v 0) →
+    bit (literal_value v (cond (eqb (c % 2) 0) falsity truth)) ≡ c % 2
 constant-bit v c t = go (eqb (c % 2) 0) refl
   where
     go : (b : Bool) → eqb (c % 2) 0 ≡ b → bit (literal_value v (cond b falsity truth)) ≡ c % 2
@@ -69,7 +74,8 @@ reads-constant v (suc w) c t h =
 -- a constant has literals
 pub All-constant : (w c n : ℕ) → 0 < n → All (IsLiteral n) (constant w c)
 All-constant zero c n pos = All-nil (IsLiteral n)
-All-constant (suc w) c n pos = All-cons (IsLiteral n) _ (constant w (c / 2)) (go (eqb (c % 2) 0)) (All-constant w (c / 2) n pos)
+All-constant (suc w) c n pos =
+    All-cons (IsLiteral n) _ (constant w (c / 2)) (go (eqb (c % 2) 0)) (All-constant w (c / 2) n pos)
   where
     go : (b : Bool) → IsLiteral n (cond b falsity truth)
     go true = omega (arith, pos)
@@ -81,9 +87,11 @@ IsWord-constant w c n pos = record { bits = length-constant w c; inside = All-co
 
 -- the meaning
 
-module _ (w : ℕ) (one : 1 ≤ w) (fields : List (List ℕ)) (v : ℕ → Bool) (long : All (λ word. length word ≡ w) fields) where
+module _ (w : ℕ) (one : 1 ≤ w) (fields : List (List ℕ)) (v : ℕ → Bool)
+    (long : All (λ word. length word ≡ w) fields) where
   abbrev HasMeaning : Term → Type 0
-  HasMeaning t = IsTrue (fits w (length fields) t) → Means v (blasted w fields t) (ReadsAs v w (val w t (map (reads v) fields)))
+  HasMeaning t =
+      IsTrue (fits w (length fields) t) → Means v (blasted w fields t) (ReadsAs v w (val w t (map (reads v) fields)))
 
   -- words that read as the values of terms
   record ReadAll (ts : List Term) (words : List (List ℕ)) : Type 0 where
@@ -94,7 +102,8 @@ module _ (w : ℕ) (one : 1 ≤ w) (fields : List (List ℕ)) (v : ℕ → Bool)
   Means-in_turn : (ts : List Term) → AllByRecursion HasMeaning ts → list_all (fits w (length fields)) ts ≡ true →
       Means v (in_turn (map (blasted w fields) ts)) (ReadAll ts)
   unfolding in_turn
-  Means-in_turn [] each fit = Means-answer _ (record { count = refl; bits = All-nil (λ word. length word ≡ w); values = refl })
+  Means-in_turn [] each fit =
+      Means-answer _ (record { count = refl; bits = All-nil (λ word. length word ≡ w); values = refl })
   Means-in_turn (t ∷ ts) each fit =
       Means-bind _ (each.0 (and_parts _ _ fit).0)
       (λ word r. Means-bind _ (Means-in_turn ts each.1 (and_parts _ _ fit).1)
@@ -109,7 +118,8 @@ module _ (w : ℕ) (one : 1 ≤ w) (fields : List (List ℕ)) (v : ℕ → Bool)
     const = λ c fit.
         let small : c < 2 ^ w = ltb-true _ _ (subst IsTrue (fits-Const w (length fields) c) fit) in
         rw (blasted-Const w fields c, val-Const w c (map (reads v) fields))
-        (Means-truth (λ t. Means-answer _ (record { bits = length-constant w c; value = reads-constant v w c t small })));
+        (Means-truth
+        (λ t. Means-answer _ (record { bits = length-constant w c; value = reads-constant v w c t small })));
     field = λ i fit.
         let within : i < length fields = ltb-true _ _ (subst IsTrue (fits-Field w (length fields) i) fit) in
         rw (blasted-Field w fields i, val-Field w i (map (reads v) fields))
@@ -123,7 +133,8 @@ module _ (w : ℕ) (one : 1 ≤ w) (fields : List (List ℕ)) (v : ℕ → Bool)
   }
 
   -- the circuit of a term reads as the term's value
-  pub Means-blasted : (t : Term) → IsTrue (fits w (length fields) t) → Means v (blasted w fields t) (ReadsAs v w (val w t (map (reads v) fields)))
+  pub Means-blasted : (t : Term) → IsTrue (fits w (length fields) t) →
+      Means v (blasted w fields t) (ReadsAs v w (val w t (map (reads v) fields)))
   Means-blasted = by_induction HasMeaning meaning
 
 -- the gates
@@ -139,15 +150,21 @@ module _ (w : ℕ) (one : 1 ≤ w) (fields : List (List ℕ)) where
   abbrev AreWordsOf : List Term → ℕ → List (List ℕ) → Type 0
   AreWordsOf ts n words = (length words ≡ length ts) × All (IsWord w n) words
 
-  pub Makes-in_turn : (ts : List Term) → AllByRecursion HasGates ts → list_all (fits w (length fields)) ts ≡ true → (p : Place) → 0 < p.next → All (IsWord w p.next) fields →
+  pub Makes-in_turn : (ts : List Term) → AllByRecursion HasGates ts → list_all (fits w (length fields)) ts ≡ true →
+      (p : Place) → 0 < p.next → All (IsWord w p.next) fields →
       MakesGates (in_turn (map (blasted w fields) ts)) (sum_by (weight w) ts) (AreWordsOf ts) p
   unfolding in_turn
   Makes-in_turn [] each fit p pos h = Makes-answer _ (refl, All-nil (IsWord w p.next))
   Makes-in_turn (t ∷ ts) each fit p pos h =
       Makes-bind _ (sum_by (weight w) ts) (each.0 (and_parts _ _ fit).0 p pos h) (sym (sum_by-cons (weight w) t ts))
       (λ word q l f. Makes-bind _ 0
-      (Makes-in_turn ts each.1 (and_parts _ _ fit).1 q (omega (arith, pos, l)) (fields-later p.next q.next (omega (arith, l)) h)) (omega arith)
-      (λ words r k g. Makes-answer _ (ap suc g.0, All-cons (IsWord w r.next) word words (IsWord-later w q.next r.next word (omega (arith, k)) f) g.1)))
+      (Makes-in_turn ts each.1 (and_parts _ _ fit).1 q (omega (arith, pos, l))
+      (fields-later p.next q.next (omega (arith, l)) h))
+      (omega arith)
+      (λ words r k g. Makes-answer _ (
+        ap suc g.0,
+        All-cons (IsWord w r.next) word words (IsWord-later w q.next r.next word (omega (arith, k)) f) g.1,
+      )))
 
   gates : Steps HasGates
   gates = record {
@@ -157,7 +174,9 @@ module _ (w : ℕ) (one : 1 ≤ w) (fields : List (List ℕ)) where
         let within : i < length fields = ltb-true _ _ (subst IsTrue (fits-Field w (length fields) i) fit) in
         rw (blasted-Field w fields i, weight-Field w i) (Makes-answer _ (h i [] within));
     node = λ op ts each fit p pos h.
-        let fit_all : list_all (fits w (length fields)) ts ≡ true = (and_parts (length ts == arity op) (list_all (fits w (length fields)) ts) (subst IsTrue (fits-Node w (length fields) op ts) fit)).1 in
+        let fit_all : list_all (fits w (length fields)) ts ≡ true =
+        (and_parts (length ts == arity op) (list_all (fits w (length fields)) ts)
+        (subst IsTrue (fits-Node w (length fields) op ts) fit)).1 in
         let count = fits_arity w (length fields) op ts fit in
         let sum : sum_by (weight w) ts + weight_of w op ≡ weight_of w op + sum_by (weight w) ts = omega arith in
         rw (blasted-Node w fields op ts, weight-Node w op ts)
@@ -167,32 +186,38 @@ module _ (w : ℕ) (one : 1 ≤ w) (fields : List (List ℕ)) where
   }
 
   -- the circuit of a term is at most as many gates as the term weighs
-  pub Makes-blasted : (t : Term) → IsTrue (fits w (length fields) t) → (p : Place) → 0 < p.next → All (IsWord w p.next) fields →
+  pub Makes-blasted : (t : Term) → IsTrue (fits w (length fields) t) → (p : Place) → 0 < p.next →
+      All (IsWord w p.next) fields →
       MakesGates (blasted w fields t) (weight w t) (IsWord w) p
   Makes-blasted = by_induction HasGates gates
 
 -- one more argument, and all of them
 
 -- one step, and then the others in turn
-pub Follows-in_turn_at : (f : Term → Step (List ℕ)) (i : ℕ) (t : Term) (ts : List Term) (n m end : Net) (word : List ℕ) (rest : List (List ℕ)) →
-    i < length ts → t ≡ get_or ts i t → Follows (f t) n word m → Follows (in_turn (map f (drop (i + 1) ts))) m rest end →
+pub Follows-in_turn_at : (f : Term → Step (List ℕ)) (i : ℕ) (t : Term) (ts : List Term) (n m end : Net) (word : List ℕ)
+    (rest : List (List ℕ)) →
+    i < length ts → t ≡ get_or ts i t → Follows (f t) n word m →
+    Follows (in_turn (map f (drop (i + 1) ts))) m rest end →
     Follows (in_turn (map f (drop i ts))) n (word ∷ rest) end
 unfolding in_turn
 Follows-in_turn_at f i t ts n m end word rest l e one more =
     rw (drop-from i t ts l e) (Follows-bind _ one (Follows-bind _ more Follows-answer))
 
 -- no more steps make nothing
-pub Follows-in_turn_end : (f : Term → Step (List ℕ)) (i : ℕ) (ts : List Term) (n : Net) → length ts ≤ i → Follows (in_turn (map f (drop i ts))) n [] n
+pub Follows-in_turn_end : (f : Term → Step (List ℕ)) (i : ℕ) (ts : List Term) (n : Net) → length ts ≤ i →
+    Follows (in_turn (map f (drop i ts))) n [] n
 unfolding in_turn
 Follows-in_turn_end f i ts n l = rw (drop_all i ts l) Follows-answer
 
 -- the bits of a constant from the lowest on
-pub constant-next : (w i c : ℕ) → i < w → constant (w - i) c ≡ cond (eqb (c % 2) 0) falsity truth ∷ constant (w - (i + 1)) (c / 2)
+pub constant-next : (w i c : ℕ) → i < w →
+    constant (w - i) c ≡ cond (eqb (c % 2) 0) falsity truth ∷ constant (w - (i + 1)) (c / 2)
 constant-next w i c l = let e : w - i ≡ suc (w - (i + 1)) = omega (arith, l) in ap (λ k. constant k c) e
 
 -- what a circuit has where a term is made in it
 
-module _ (w : ℕ) (one : 1 ≤ w) (fields : List (List ℕ)) (t : Term) (n : Net) (fit : IsTrue (fits w (length fields) t)) (truth : 0 < n.vars) (words : All (IsWord w n.vars) fields) where
+module _ (w : ℕ) (one : 1 ≤ w) (fields : List (List ℕ)) (t : Term) (n : Net) (fit : IsTrue (fits w (length fields) t))
+    (truth : 0 < n.vars) (words : All (IsWord w n.vars) fields) where
   its : MakesGates (blasted w fields t) (weight w t) (IsWord w) (place_of n)
   its = Makes-blasted w one fields t fit (place_of n) truth words
 
@@ -205,9 +230,11 @@ module _ (w : ℕ) (one : 1 ≤ w) (fields : List (List ℕ)) (t : Term) (n : Ne
   its_scope = its.scoped
 
   -- values of the earlier variables extend to values that the gates meet
-  pub its_values : (v : ℕ → Bool) → (u : ℕ → Bool) × ((x : ℕ) → x < n.vars → u x ≡ v x) × Meets u n.vars (blasted w fields t (place_of n)).events
+  pub its_values : (v : ℕ → Bool) →
+      (u : ℕ → Bool) × ((x : ℕ) → x < n.vars → u x ≡ v x) × Meets u n.vars (blasted w fields t (place_of n)).events
   its_values v = Makes-extend v its
 
   -- a circuit that doesn't fold makes as many gates as the term weighs
-  pub its_count : (r : List ℕ) (new : Net) → n.folding ≡ false → Follows (blasted w fields t) n r new → new.vars ≡ n.vars + weight w t
+  pub its_count : (r : List ℕ) (new : Net) → n.folding ≡ false → Follows (blasted w fields t) n r new →
+      new.vars ≡ n.vars + weight w t
   its_count r new plain follows = Makes-exactly plain its follows

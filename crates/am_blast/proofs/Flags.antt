@@ -28,7 +28,8 @@ Means-flagged v w test holds one t means =
     same false = refl
 
 -- the gates of a flag are those of its test
-pub Makes-flagged : (w k : ℕ) (test : Step ℕ) (p : Place) → 1 ≤ w → 0 < p.next → MakesGates test k IsLiteral p → MakesGates (flagged w test) k (IsWord w) p
+pub Makes-flagged : (w k : ℕ) (test : Step ℕ) (p : Place) → 1 ≤ w → 0 < p.next → MakesGates test k IsLiteral p →
+    MakesGates (flagged w test) k (IsWord w) p
 unfolding flagged
 Makes-flagged w k test p one pos makes =
     Makes-bind _ 0 makes (omega arith)

@@ -21,4 +21,5 @@ Gives-choice xs ys one two = Gives-bind _ one two (omega arith)
 pub Gives-flagged : {test : Step ℕ} {j l : ℕ} {old new : Net} (w : ℕ) → 1 ≤ w →
     Gives test j IsLiteral old l new → Gives (flagged w test) j (IsWord w) old (flag w l) new
 unfolding flagged
-Gives-flagged {l = l} {new = new} w one h = Gives-bind _ h (Gives-answer (IsWord-flag w new.vars l one (omega (arith, h.given)) h.given)) (omega arith)
+Gives-flagged {l = l} {new = new} w one h =
+    Gives-bind _ h (Gives-answer (IsWord-flag w new.vars l one (omega (arith, h.given)) h.given)) (omega arith)

@@ -14,7 +14,8 @@ use Rattle.am_blast.proofs.Words.{IsWord-later}
 use Rattle.am_blast.proofs.Blasted.{Means-blasted, Makes-blasted}
 
 -- words of so many bits that read as the values of terms
-pub record ReadEach (w : ℕ) (fields : List (List ℕ)) (v : ℕ → Bool) (ts : List Term) (words : List (List ℕ)) : Type 0 where
+pub record ReadEach (w : ℕ) (fields : List (List ℕ)) (v : ℕ → Bool) (ts : List Term) (words : List (List ℕ)) : Type
+    0 where
   pub bits : All (λ word. length word ≡ w) words
   pub values : map (reads v) words ≡ map (λ t. val w t (map (reads v) fields)) ts
 
@@ -24,6 +25,7 @@ pub record AreWordsFor (w : ℕ) (ts : List Term) (vars : ℕ) (words : List (Li
   pub each : All (IsWord w vars) words
 
 module _ (w : ℕ) (one : 1 ≤ w) (fields : List (List ℕ)) where
+  -- each term fits the width and the fields
   abbrev pub FitEach : List Term → Type 0
   FitEach ts = All (λ t. IsTrue (fits w (length fields) t)) ts
 

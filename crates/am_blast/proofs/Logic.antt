@@ -63,11 +63,13 @@ and-circuit w = of_two w OpAnd refl
 -- the circuit of the bitwise or
 pub or-circuit : (w : ℕ) → IsCircuitOf w Or
 or-circuit w = of_two w Or refl
-    (λ v a b ea eb. rw ea at (Means-bitwise v Either (λ x y. not (not x && not y)) bit_or refl or-bit (Means-either v) a b (eb ∙ sym ea)))
+    (λ v a b ea eb. rw ea at
+    (Means-bitwise v Either (λ x y. not (not x && not y)) bit_or refl or-bit (Means-either v) a b (eb ∙ sym ea)))
     (λ p a b pos ha hb. rw ha.bits at (Makes-bitwise Either a b p (hb.bits ∙ sym ha.bits) tt ha.inside hb.inside))
 
 -- the circuit of the bitwise exclusive or
 pub xor-circuit : (w : ℕ) → IsCircuitOf w OpXor
 xor-circuit w = of_two w OpXor refl
-    (λ v a b ea eb. rw ea at (Means-bitwise v Differ (λ x y. not (beq x y)) bit_xor refl xor-bit (Means-xor v) a b (eb ∙ sym ea)))
+    (λ v a b ea eb. rw ea at
+    (Means-bitwise v Differ (λ x y. not (beq x y)) bit_xor refl xor-bit (Means-xor v) a b (eb ∙ sym ea)))
     (λ p a b pos ha hb. rw ha.bits at (Makes-bitwise Differ a b p (hb.bits ∙ sym ha.bits) tt ha.inside hb.inside))

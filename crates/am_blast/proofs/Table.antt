@@ -1,11 +1,13 @@
 -- Each operator's circuit reads as its value, and has as many gates as it weighs.
 use Rattle.std.proofs.Common.{ℕ, ◌≤◌}
 use Rattle.am_bv.specs.declared.op.Op.{Op}
-use Rattle.am_bv.specs.declared.op.Op.TheVariants.{Not, Neg, And, Or, Xor, Add, Sub, Mul, Udiv, Urem, Shl, Lshr, Ashr, Eq, Ult, Ule, Slt, Sle, Umin, Umax, Smin, Smax, Ite}
+use Rattle.am_bv.specs.declared.op.Op.TheVariants.{Not, Neg, And, Or, Xor, Add, Sub, Mul, Udiv, Urem, Shl, Lshr, Ashr}
+use Rattle.am_bv.specs.declared.op.Op.TheVariants.{Eq, Ult, Ule, Slt, Sle, Umin, Umax, Smin, Smax, Ite}
 use Rattle.am_blast.specs.Promises.{IsCircuitOf}
 use Rattle.am_blast.proofs.Logic.{not-circuit, and-circuit, or-circuit, xor-circuit}
 use Rattle.am_blast.proofs.Sums.{neg-circuit, add-circuit, sub-circuit}
-use Rattle.am_blast.proofs.Comparisons.{ult-circuit, ule-circuit, slt-circuit, sle-circuit, umin-circuit, umax-circuit, smin-circuit, smax-circuit}
+use Rattle.am_blast.proofs.Comparisons.{ult-circuit, ule-circuit, slt-circuit, sle-circuit, umin-circuit, umax-circuit}
+use Rattle.am_blast.proofs.Comparisons.{smin-circuit, smax-circuit}
 use Rattle.am_blast.proofs.Products.{mul-circuit}
 use Rattle.am_blast.proofs.Division.{udiv-circuit, urem-circuit}
 use Rattle.am_blast.proofs.Equality.{eq-circuit, ite-circuit}

@@ -1,10 +1,13 @@
 -- Words, what they read, and where their literals stand.
-use Rattle.std.proofs.Common.{◌≡◌, ℕ, zero, suc, ◌+◌, ◌-◌, ◌*◌, ◌^◌, ◌<◌, ◌≤◌, Bool, true, false, not, List, [], ◌∷◌, ◌++◌, take, drop, length, get_or, drop-cons, add-one, ◌/◌, ◌%◌, length-take, refl, sym, ◌∙◌, ap, arith}
+use Rattle.std.proofs.Common.{◌≡◌, ℕ, zero, suc, ◌+◌, ◌-◌, ◌*◌, ◌^◌, ◌<◌, ◌≤◌, Bool, true, false, not, List, [], ◌∷◌}
+use Rattle.std.proofs.Common.{◌++◌, take, drop, length, get_or, drop-cons, add-one, ◌/◌, ◌%◌, length-take, refl, sym}
+use Rattle.std.proofs.Common.{◌∙◌, ap, arith}
 use Rattle.std.specs.Prelude.{IsTrue, All}
 use Rattle.std.proofs.Math.Nat.{pow-succ', mod-eq_of_lt}
 use Rattle.std.proofs.lemmas.Nat.{div-mul-add, mod-mul-add}
 use Rattle.std.proofs.lemmas.List.{length-map, length-replicate, take-append-drop}
-use Rattle.std.proofs.lemmas.List.Elements.{All-cons, All-head, All-tail, All-map, All-append, All-replicate, All-take, All-drop}
+use Rattle.std.proofs.lemmas.List.Elements.{All-cons, All-head, All-tail, All-map, All-append, All-replicate, All-take}
+use Rattle.std.proofs.lemmas.List.Elements.{All-drop}
 use Rattle.am_lit.proofs.Laws.{literal_value-opposite_of}
 use Rattle.am_gate.specs.Circuit.{truth, falsity, IsLiteral}
 use Rattle.am_gate.proofs.Laws.{IsLiteral-opposite, literal_value-even, literal_value-odd}
@@ -61,7 +64,8 @@ reads-drop v n xs l =
     sym (ap (λ k. k / 2 ^ n) parts ∙ div-mul-add (reads v (drop n xs)) (2 ^ n) (reads v (take n xs)) small)
 
 -- they read as the word, where it reads a number of so many bits
-pub reads-take_small : (v : ℕ → Bool) (n : ℕ) (xs : List ℕ) → n ≤ length xs → reads v xs < 2 ^ n → reads v (take n xs) ≡ reads v xs
+pub reads-take_small : (v : ℕ → Bool) (n : ℕ) (xs : List ℕ) → n ≤ length xs → reads v xs < 2 ^ n
+    → reads v (take n xs) ≡ reads v xs
 reads-take_small v n xs l small = reads-take v n xs l ∙ mod-eq_of_lt small
 
 -- the literal that is true
@@ -119,17 +123,20 @@ AreWords-swapped n xs ys h = record { lengths = sym h.lengths; first = h.second;
 
 -- two words stay two words within a later bound
 pub AreWords-later : (n m : ℕ) (xs ys : List ℕ) → n ≤ m → AreWords n xs ys → AreWords m xs ys
-AreWords-later n m xs ys l h = record { lengths = h.lengths; first = All-later n m xs l h.first; second = All-later n m ys l h.second }
+AreWords-later n m xs ys l h =
+    record { lengths = h.lengths; first = All-later n m xs l h.first; second = All-later n m ys l h.second }
 
 -- a word and the opposites of another are two words
 pub AreWords-opposites : (n : ℕ) (xs ys : List ℕ) → AreWords n xs ys → AreWords n xs (opposites ys)
-AreWords-opposites n xs ys h = record { lengths = length-map ys opposite_of ∙ h.lengths; first = h.first; second = All-opposites n ys h.second }
+AreWords-opposites n xs ys h =
+    record { lengths = length-map ys opposite_of ∙ h.lengths; first = h.first; second = All-opposites n ys h.second }
 
 -- a word with its sign turned has literals
 pub All-sign_turned : (n : ℕ) (xs : List ℕ) → All (IsLiteral n) xs → All (IsLiteral n) (sign_turned xs)
 All-sign_turned n xs h =
     let k = length xs - 1 in
-    All-append (IsLiteral n) (take k xs) (opposites (drop k xs)) (All-take (IsLiteral n) k xs h) (All-opposites n (drop k xs) (All-drop (IsLiteral n) k xs h))
+    All-append (IsLiteral n) (take k xs) (opposites (drop k xs)) (All-take (IsLiteral n) k xs h)
+    (All-opposites n (drop k xs) (All-drop (IsLiteral n) k xs h))
 
 -- a flag is a word
 pub IsWord-flag : (w n l : ℕ) → 1 ≤ w → 0 < n → IsLiteral n l → IsWord w n (flag w l)
@@ -143,5 +150,6 @@ pub IsWord-zeros : (w n : ℕ) → 0 < n → IsWord w n (zeros w)
 IsWord-zeros w n h = record { bits = length-replicate w falsity; inside = All-zeros n w h }
 
 -- what is left of a list, from an element on
-pub drop-from : {A : Type 0} (i : ℕ) (x : A) (xs : List A) → i < length xs → x ≡ get_or xs i x → drop i xs ≡ x ∷ drop (i + 1) xs
+pub drop-from : {A : Type 0} (i : ℕ) (x : A) (xs : List A) → i < length xs → x ≡ get_or xs i x
+    → drop i xs ≡ x ∷ drop (i + 1) xs
 drop-from i x xs l e = drop-cons xs i x l ∙ rw (← e, add-one) refl

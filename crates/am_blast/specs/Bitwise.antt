@@ -26,6 +26,7 @@ IsOver vars Either = Unit {0}
 IsOver vars Differ = Unit {0}
 IsOver vars (Choose c) = IsLiteral vars c
 
+-- the gate of each two bits at the same place
 unfoldable pub bitwise : Gate → List ℕ → List ℕ → Step (List ℕ)
 bitwise gate [] ys = answer []
 bitwise gate (x ∷ xs) [] = answer []

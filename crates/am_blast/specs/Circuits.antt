@@ -56,6 +56,7 @@ in_turn (m ∷ ms) = do
   rest ← in_turn ms
   answer (first ∷ rest)
 
+-- the circuit of a term's root over the circuits of its arguments
 abbrev pub blast_step : ℕ → List (List ℕ) → Term-F (Step (List ℕ)) → Step (List ℕ)
 blast_step w fields (Const c) = answer (constant w c)
 blast_step w fields (Field i) = answer (slice_index_or fields i [])

@@ -28,6 +28,7 @@ equal_from e (x ∷ xs) (y ∷ ys) = do
   next ← ask (And e (opposite_of differ))
   equal_from next xs ys
 
+-- whether the words are equal
 abbrev pub equal : List ℕ → List ℕ → Step ℕ
 equal a b = equal_from truth a b
 
@@ -38,6 +39,7 @@ nonzero_from n (x ∷ xs) = do
   next ← either n x
   nonzero_from next xs
 
+-- whether some bit of the word is set
 abbrev pub nonzero : List ℕ → Step ℕ
 nonzero a = nonzero_from falsity a
 

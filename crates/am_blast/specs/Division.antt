@@ -28,11 +28,13 @@ division_from (x ∷ xs) q r b = do
 abbrev pub division : List ℕ → List ℕ → Step (List ℕ × List ℕ)
 division a b = division_from (reverse a) [] (zeros (length b + 1)) (b ++ falsity ∷ [])
 
+-- the quotient of two words; by 0 all its bits are set
 unfoldable pub quotient : List ℕ → List ℕ → Step (List ℕ)
 quotient a b = do
   both ← division a b
   answer both.0
 
+-- the remainder of two words; by 0 it is the dividend
 unfoldable pub remainder : List ℕ → List ℕ → Step (List ℕ)
 remainder a b = do
   both ← division a b

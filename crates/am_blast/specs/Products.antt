@@ -21,5 +21,6 @@ product_from i acc a (y ∷ ys) = do
   next ← sum_of acc (zeros i ++ row) falsity
   product_from (i + 1) next a ys
 
+-- the product of two words, without what is above the word
 abbrev pub product : List ℕ → List ℕ → Step (List ℕ)
 product a b = product_from 0 (zeros (length a)) a b

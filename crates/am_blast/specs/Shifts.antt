@@ -11,6 +11,7 @@ abbrev pub moved : Direction → ℕ → ℕ → List ℕ → List ℕ
 moved Up fill n word = take (length word) (replicate n fill ++ word)
 moved Down fill n word = drop n (word ++ replicate n fill)
 
+-- the last literal of a word, which is its sign
 abbrev pub top : List ℕ → ℕ
 top word = slice_index word (length word - 1)
 
@@ -21,5 +22,6 @@ shifted_from moved_by k word (y ∷ ys) = do
   next ← bitwise (Choose y) (moved_by (2 ^ k) word) word
   shifted_from moved_by (k + 1) next ys
 
+-- the word moved by the amount that the other word reads
 abbrev pub shifted : (ℕ → List ℕ → List ℕ) → List ℕ → List ℕ → Step (List ℕ)
 shifted moved_by a b = shifted_from moved_by 0 a b

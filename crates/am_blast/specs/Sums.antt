@@ -20,11 +20,13 @@ adder (x ∷ xs) (y ∷ ys) c = do
   rest ← adder xs ys one.1
   answer (one.0 ∷ rest.0, rest.1)
 
+-- the sum of two words and a carry, without the last carry
 unfoldable pub sum_of : List ℕ → List ℕ → ℕ → Step (List ℕ)
 sum_of a b c = do
   both ← adder a b c
   answer both.0
 
+-- the last carry of the sum of two words and a carry
 unfoldable pub carry_of : List ℕ → List ℕ → ℕ → Step ℕ
 carry_of a b c = do
   both ← adder a b c

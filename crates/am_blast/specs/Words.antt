@@ -5,6 +5,7 @@ use Rattle.am_lit.specs.Literal.{opposite_of}
 use Rattle.am_lit.specs.Truth.{literal_value}
 use Rattle.am_gate.specs.Circuit.{truth, falsity, IsLiteral}
 
+-- the number that a bit stands for
 abbrev pub bit : Bool → ℕ
 bit b = if b then 1 else 0
 

@@ -12,7 +12,8 @@ module _ (w n : ℕ) where
   abbrev IsRight : Term → Type 0
   IsRight t = IsTrue (fits w n t) → IsTrue (has_arities t)
 
-  all-right : (ts : List Term) → AllByRecursion IsRight ts → list_all (fits w n) ts ≡ true → list_all has_arities ts ≡ true
+  all-right : (ts : List Term) → AllByRecursion IsRight ts → list_all (fits w n) ts ≡ true
+      → list_all has_arities ts ≡ true
   all-right [] each fit = refl
   all-right (t ∷ ts) each fit = let parts = and_parts _ _ fit in rw (each.0 parts.0, all-right ts each.1 parts.1) refl
 
@@ -20,7 +21,9 @@ module _ (w n : ℕ) where
   right = record {
     const = λ c fit. arities-Const c;
     field = λ i fit. arities-Field i;
-    node = λ op ts each fit. rw (arities-Node op ts, fits_arity w n op ts fit, all-right ts each (arguments-fit w n op ts fit)) (search rules);
+    node = λ op ts each fit.
+        rw (arities-Node op ts, fits_arity w n op ts fit, all-right ts each (arguments-fit w n op ts fit))
+        (search rules);
   }
 
   -- a term that fits has them

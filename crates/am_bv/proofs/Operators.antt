@@ -2,9 +2,11 @@
 use Rattle.std.proofs.Common.{refl, lit<}
 use Rattle.std.specs.Prelude.{Contains}
 use Rattle.am_bv.specs.declared.op.Op.{Op}
-use Rattle.am_bv.specs.declared.op.Op.TheVariants.{Not, Neg, And, Or, Xor, Add, Sub, Mul, Udiv, Urem, Shl, Lshr, Ashr, Eq, Ult, Ule, Slt, Sle, Umin, Umax, Smin, Smax, Ite}
+use Rattle.am_bv.specs.declared.op.Op.TheVariants.{Not, Neg, And, Or, Xor, Add, Sub, Mul, Udiv, Urem, Shl, Lshr, Ashr}
+use Rattle.am_bv.specs.declared.op.Op.TheVariants.{Eq, Ult, Ule, Slt, Sle, Umin, Umax, Smin, Smax, Ite}
 use Rattle.am_bv.specs.declared.op.TheConstants.Op.{ALL}
 
+-- each operator is in the list of all
 pub ALL-contains : (op : Op) → Contains ALL op
 ALL-contains Not = (0, lit< tt, refl)
 ALL-contains Neg = (1, lit< tt, refl)

@@ -1,5 +1,6 @@
 -- What `==` answers at operators and at terms: whether they are equal.
-use Rattle.std.proofs.Common.{◌≡◌, ℕ, Bool, true, false, List, [], ◌∷◌, refl, ap, ◌∙◌, sym, nat_eq, ◌&&◌, ◌↔◌, IsTrue, rules, eq-eqb}
+use Rattle.std.proofs.Common.{◌≡◌, ℕ, Bool, true, false, List, [], ◌∷◌, refl, ap, ◌∙◌, sym, nat_eq, ◌&&◌, ◌↔◌, IsTrue}
+use Rattle.std.proofs.Common.{rules, eq-eqb}
 use Rattle.std.specs.List.{AllByRecursion}
 use Rattle.std.specs.Cmp.Lexicographic.{pointwise}
 use Rattle.std.proofs.lemmas.Bool.{eqb-true, and_parts}
@@ -16,6 +17,7 @@ use Rattle.am_bv.proofs.Induction.{Steps, by_induction}
 abbrev pub same_op : Op → Op → Bool
 same_op = op_ghosts.eq
 
+-- what `==` answers at two terms
 abbrev pub same : Term → Term → Bool
 same = ghosts.eq
 
@@ -50,6 +52,7 @@ same-Node-Field o ts i = is (Node o ts) (Field i) ∙ search (rules, the_lemmas)
 pub op-same : (o p : Op) → same_op o p ≡ true → o ≡ p
 op-same o p e = same_true the_type (search rules) _ _ e
 
+-- an operator compares equal to itself
 pub op-reflexive : (o : Op) → same_op o o ≡ true
 op-reflexive o = search rules
 
@@ -100,5 +103,6 @@ reflexive = record {
   node = λ o ts h. same-Node o o ts ts ∙ rw (op-reflexive o, rows_reflexive ts h) refl;
 }
 
+-- terms compare equal where they are, and nowhere else
 pub same-decides : (t u : Term) → IsTrue (same t u) ↔ (t ≡ u)
 same-decides t u = (λ h. by_induction IsFound found t u h, λ e. rw (sym e) (by_induction IsReflexive reflexive t))

@@ -1,6 +1,6 @@
 -- Answers are spelled as they are read, and read as they are spelled.
-use Rattle.std.proofs.Common.{◌≡◌, ◌+◌, false, List, ◌++◌, codes, refl, inl, inr}
-use Rattle.std.specs.Prelude.{◌⊎◌}
+use Rattle.std.proofs.Common.{◌≡◌, ◌+◌, Bool, false, true, List, [], ◌∷◌, ◌++◌, ap, codes, refl, inl, inr}
+use Rattle.std.specs.Prelude.{Some, ◌⊎◌}
 use Rattle.am_query.specs.declared.asked.Asked.{Asked}
 use Rattle.am_query.specs.declared.asked.Asked.TheVariants.{Keep, Precise, Sound, Start}
 use Rattle.am_query.specs.declared.outcome.Outcome.{Outcome}
@@ -11,14 +11,20 @@ use Rattle.am_syntax.specs.Pieces.{Piece, choice, closed, key_or, keyed, next_is
 use Rattle.am_syntax.specs.Readers.{Words}
 use Rattle.am_syntax.proofs.Laws.{choice_law, closed_law, key_law, keyed_law, seen_law, then_law, times_law}
 use Rattle.am_bv.specs.declared.term.Term.{Term}
-use Rattle.am_cert.specs.Grammar.{AskedParts, ConflictParts, ExampleParts, NoneParts, OutcomeParts, Shape, asked, asked_of}
-use Rattle.am_cert.specs.Grammar.{asked_parts, best, example, log, negative_count, none, outcome, outcome_of, outcome_parts}
-use Rattle.am_cert.specs.Grammar.{spent_conflicts, spent_turns, terms}
+use Rattle.am_cert.specs.Grammar.{AskedParts, ConflictParts, ExampleParts, HintedBest, HintedNone, NoneParts}
+use Rattle.am_cert.specs.Grammar.{OutcomeParts, Shape, answer, asked, asked_of, chained_of, chained_part, hinted_best}
+use Rattle.am_cert.specs.Grammar.{hinted_none, hinted_of, hinted_part, hints, asked_parts, best, example, log}
+use Rattle.am_cert.specs.Grammar.{negative_count, none, outcome, outcome_of, outcome_parts, spent_conflicts}
+use Rattle.am_cert.specs.Grammar.{spent_turns, terms}
+use Rattle.am_cert.specs.declared.answer.Proofs.{Proofs}
+use Rattle.am_cert.specs.declared.answer.Proofs.TheVariants.{Chains, Hinted}
 use Rattle.am_cert.specs.inside.Shapes.{IsShape}
-use Rattle.am_cert.specs.inside.Shown.{question, term_lines}
+use Rattle.am_cert.specs.inside.Shown.{term_lines}
 use Rattle.am_cert.proofs.RowLaws.{EndsNumbers, narrow_law, result_term_law, terms_law}
 use Rattle.am_cert.proofs.TurnLaws.{EndsTurns, example_law, turns_law}
 use Rattle.am_cert.proofs.ChainLaws.{EndsLog, log_law}
+use Rattle.am_cert.proofs.HintLaws.{EndsHints, hints_law}
+use Rattle.am_cert.proofs.PartialLaws.{seen_where_law}
 
 asked_there : (x : AskedParts) → asked_parts (asked_of x) ≡ x
 asked_there (inl u) = refl
@@ -44,10 +50,36 @@ outcome_back (Absent trace log) = refl
 outcome_back (Turns trace) = refl
 outcome_back (Conflicts trace asked log) = refl
 
--- neither a turn nor a chain nor a row of digits comes
+chained_back : (o : Outcome) (proofs : Proofs) (x : Outcome) → chained_part o proofs ≡ Some x →
+    chained_of x ≡ record { outcome = o; proofs = proofs }
+chained_back o Chains x e = let same : x ≡ o = cc in ap chained_of same
+chained_back o (Hinted first second) x e = cc
+
+hinted_there : (x : HintedBest ⊎ HintedNone) →
+    hinted_part (hinted_of x).outcome (hinted_of x).proofs ≡ Some x
+hinted_there (inl x) = refl
+hinted_there (inr x) = refl
+
+hinted_back : (o : Outcome) (proofs : Proofs) (x : HintedBest ⊎ HintedNone) → hinted_part o proofs ≡ Some x →
+    hinted_of x ≡ record { outcome = o; proofs = proofs }
+hinted_back (Best t trace [] []) (Hinted first second) x e =
+    let same : x ≡ inl (t, (trace, (first, second))) = cc in ap hinted_of same
+hinted_back (Best t trace [] []) Chains x e = cc
+hinted_back (Best t trace [] (c ∷ log)) proofs x e = cc
+hinted_back (Best t trace (c ∷ log) best_log) proofs x e = cc
+hinted_back (Absent trace []) (Hinted first []) x e =
+    let same : x ≡ inr (trace, first) = cc in ap hinted_of same
+hinted_back (Absent trace []) (Hinted first (h ∷ second)) x e = cc
+hinted_back (Absent trace []) Chains x e = cc
+hinted_back (Absent trace (c ∷ log)) proofs x e = cc
+hinted_back (Turns trace) proofs x e = cc
+hinted_back (Conflicts trace asked log) proofs x e = cc
+
+-- neither a turn nor a chain nor a hint nor a row of digits comes
 pub record EndsAnswer (rest : Words) : Type 0 where
   pub turns : EndsTurns rest
   pub log : EndsLog rest
+  pub hints : EndsHints rest
 
 -- ---- the query
 
@@ -153,8 +185,38 @@ module _ (s : Shape) (is : IsShape s) where
       (λ _ _ _. refl) (λ x rest _. others_differ s x rest))
       (λ x good. outcome_there x) outcome_back
 
-  -- `answer`, an outcome and `end`
-  pub answered_law : IsExact (closed (codes "end") (keyed (codes "answer") (outcome s))) always
-  answered_law =
-      closed_law syntax (codes "end") (keyed_law syntax (codes "answer") outcome_law)
-      (λ rest. record { turns = (refl, refl); log = (refl, refl) })
+  -- ---- the answer with hints
+
+  pub hinted_best_law : IsExact (hinted_best s) EndsHints
+  unfolding hinted_best hints
+  hinted_best_law =
+      keyed_law syntax (codes "best")
+      (then_law term_lines_law (λ _ _.
+      then_law (turns_law s is s.turns) (λ _ _.
+      then_law (hints_law (codes "sound")) (λ _ _. hints_law (codes "best"))
+      (λ _ _ _ _ _ _. (refl, refl))) (λ _ _ _ _ _ _. (refl, refl))) (λ _ _ _ _ _ _. tt))
+
+  pub hinted_none_law : IsExact (hinted_none s) EndsHints
+  unfolding hinted_none hints
+  hinted_none_law =
+      keyed_law syntax (codes "none")
+      (then_law (turns_law s is s.turns) (λ _ _. hints_law (codes "fit")) (λ _ _ _ _ _ _. (refl, refl)))
+
+  pub answer_law : (by_hints : Bool) → IsExact (answer by_hints s) EndsAnswer
+  unfolding answer hinted_best hinted_none
+  answer_law true =
+      seen_where_law hinted_of (λ a. hinted_part a.outcome a.proofs)
+      (choice_law (next_is (codes "best"))
+      (narrow_law hinted_best_law (λ rest ends. ends.hints)) (narrow_law hinted_none_law (λ rest ends. ends.hints))
+      (λ _ _ _. refl) (λ _ _ _. refl))
+      hinted_there (λ a x e. hinted_back a.outcome a.proofs x e)
+  answer_law false =
+      seen_where_law chained_of (λ a. chained_part a.outcome a.proofs) outcome_law (λ x. refl)
+      (λ a x e. chained_back a.outcome a.proofs x e)
+
+  -- `answer`, an answer and `end`
+  pub answered_law : (by_hints : Bool) →
+      IsExact (closed (codes "end") (keyed (codes "answer") (answer by_hints s))) always
+  answered_law by_hints =
+      closed_law syntax (codes "end") (keyed_law syntax (codes "answer") (answer_law by_hints))
+      (λ rest. record { turns = (refl, refl); log = (refl, refl); hints = (refl, refl) })

@@ -1,6 +1,6 @@
 -- A text is a certificate's exactly where that certificate is read from it, and else it has a first refusal.
-use Rattle.std.proofs.Common.{◌≡◌, ℕ, ◌^◌, ◌<◌, cond, List, [], ◌∷◌, ◌++◌, bytes_eq, codes, length, Option, Some, None, Result}
-use Rattle.std.proofs.Common.{Ok, Err, ap, subst, ◌∙◌, sym, refl, inl, inr, arith, length-append}
+use Rattle.std.proofs.Common.{◌≡◌, ℕ, ◌^◌, ◌<◌, ◌≤◌, cond, List, [], ◌∷◌, ◌++◌, bytes_eq, codes, length, Option, Some}
+use Rattle.std.proofs.Common.{None, Result, Ok, Err, ap, subst, ◌∙◌, sym, refl, inl, inr, arith}
 use Rattle.std.specs.Prelude.{IfErr, IfOk}
 use Rattle.std.proofs.lemmas.List.{append-nil}
 use Rattle.am_problem.specs.Grammar.{problem}
@@ -10,61 +10,73 @@ use Rattle.am_problem.specs.Problem.{Problem}
 use Rattle.am_problem.specs.Texts.{Draft as ProblemDraft, IfRefused, draft as problem_draft, draft_with, named}
 use Rattle.am_problem.specs.Texts.{settled as settled_problem}
 use Rattle.am_problem.specs.lemmas.KindLaws.{laws_of}
-use Rattle.am_problem.proofs.Laws.{IsLines, IsDraftOf, HasDraft, draft_again, draft_takes, lines_good, lines_of_formed, problem_law}
-use Rattle.am_query.specs.declared.outcome.Outcome.{Outcome}
+use Rattle.am_problem.proofs.Laws.{IsLines, draft_again, draft_takes, lines_good, lines_of_formed, problem_law}
 use Rattle.am_text.specs.Tokens.{Left, Placed, bad_byte, text_left, tokens_at}
 use Rattle.am_syntax.specs.Exact.{IsExact, Takes, always, words_in}
 use Rattle.am_syntax.specs.Numerals.{is_digits}
 use Rattle.am_syntax.specs.Pieces.{closed, keyed, syntax}
-use Rattle.am_syntax.specs.Readers.{◌>>=◌, Read, Word, done, onward}
+use Rattle.am_syntax.specs.Readers.{◌>>=◌, Read, Word, Words, done, onward}
 use Rattle.am_syntax.specs.Texts.{Answers, ended, whole}
 use Rattle.am_syntax.specs.declared.refusal.Cause.{Cause}
 use Rattle.am_syntax.specs.declared.refusal.Cause.TheVariants.{Number, Syntax}
 use Rattle.am_syntax.specs.declared.refusal.ReadError.{ReadError}
 use Rattle.am_syntax.specs.declared.refusal.ReadError.TheVariants.{NoMemory, Refused}
 use Rattle.am_syntax.specs.declared.refusal.Refusal.{Refusal}
-use Rattle.am_syntax.proofs.Laws.{Takes-halves, Takes-length, Takes-then, Takes-words, bind_ok, chosen, keyed_law, ok_is}
+use Rattle.am_syntax.proofs.Laws.{Takes-halves, Takes-then, Takes-words, bind_ok, chosen, keyed_law, ok_is}
 use Rattle.am_syntax.proofs.Laws.{same_bytes, token_law}
-use Rattle.am_cert.specs.Certificate.{AreBounded, Certificate, IsCertificate}
-use Rattle.am_cert.specs.Grammar.{Shape, outcome, shape_of, version, version_judge, version_word}
-use Rattle.am_cert.specs.Texts.{Draft, IsSettledCertificate, Reads, all_settled, answered, certificate_of, certificate_words}
-use Rattle.am_cert.specs.Texts.{draft, drafted, settled, settled_with}
+use Rattle.am_cert.specs.Certificate.{Certificate, IsCertificate, answer_of}
+use Rattle.am_cert.specs.Grammar.{Shape, answer, outcome, shape_of, version, version_judge, version_word}
+use Rattle.am_cert.specs.Texts.{Draft, IsSettledCertificate, Reads, all_settled, answered, certificate_of}
+use Rattle.am_cert.specs.Texts.{certificate_words, IsShort, draft, drafted, settled, settled_with}
+use Rattle.am_cert.specs.Versions.{has_hints}
+use Rattle.am_cert.specs.declared.answer.Answer.{Answer}
 use Rattle.am_cert.specs.declared.version.Version.{Version}
-use Rattle.am_cert.specs.declared.version.Version.TheVariants.{One, Two}
+use Rattle.am_cert.specs.declared.version.Version.TheVariants.{Four, One, Three, Two}
 use Rattle.am_cert.specs.inside.Drafts.{CanFollow}
 use Rattle.am_cert.specs.inside.Shapes.{IsShape}
 use Rattle.am_cert.proofs.AnswerLaws.{answered_law}
-use Rattle.am_cert.proofs.Bounds.{outcome_bounded, tokens_length}
+use Rattle.am_cert.proofs.Bounds.{before_bytes, both_bytes, bytes, left_short, taken_short, text_short}
+use Rattle.am_cert.proofs.Following.{answer_stands, good_answer}
 
 -- ---- the version
 
-version_to : (v : Word) (x : Version) → version_judge v ≡ Ok x → v ≡ version_word x
-version_to v x e = elim (chosen (bytes_eq v (codes "1")) _ _ (Ok x) e) [
-  | inl one ↦
-      let is : One ≡ x = (let f : ◌≡◌ {A = Result Version Cause} (Ok One) (Ok x) = one.1 in cc) in
-      same_bytes v (codes "1") one.0 ∙ ap version_word is
-  | inr other ↦ elim (chosen (bytes_eq v (codes "2")) _ _ (Ok x) other.1) [
-    | inl two ↦
-        let is : Two ≡ x = (let f : ◌≡◌ {A = Result Version Cause} (Ok Two) (Ok x) = two.1 in cc) in
-        same_bytes v (codes "2") two.0 ∙ ap version_word is
-    | inr none ↦
-        absurd (let f : ◌≡◌ {A = Result Version Cause} (Err (cond (is_digits v) Number Syntax)) (Ok x) = none.1 in cc)
-  ]
+-- a word is that of a version, or else of one of the later ones
+version_or : (v : Word) (y x : Version) (later : Result Version Cause) →
+    cond (bytes_eq v (version_word y)) (Ok y) later ≡ Ok x → (later ≡ Ok x → v ≡ version_word x) → v ≡ version_word x
+version_or v y x later e others = elim (chosen (bytes_eq v (version_word y)) (Ok y) later (Ok x) e) [
+  | inl this ↦
+      let is : y ≡ x = (let f : ◌≡◌ {A = Result Version Cause} (Ok y) (Ok x) = this.1 in cc) in
+      same_bytes v (version_word y) this.0 ∙ ap version_word is
+  | inr other ↦ others other.1
 ]
+
+no_version : (v : Word) (x : Version) → ◌≡◌ {A = Result Version Cause} (Err (cond (is_digits v) Number Syntax)) (Ok x) →
+    ⊥
+no_version v x e = cc
+
+version_to : (v : Word) (x : Version) → version_judge v ≡ Ok x → v ≡ version_word x
+version_to v x e =
+    version_or v One x _ e (λ two.
+    version_or v Two x _ two (λ three.
+    version_or v Three x _ three (λ four.
+    version_or v Four x _ four (λ none. absurd (no_version v x none)))))
 
 version_back : (x : Version) → version_judge (version_word x) ≡ Ok x
 version_back One = refl
 version_back Two = refl
+version_back Three = refl
+version_back Four = refl
 
 version_law : IsExact version always
 unfolding version
 version_law =
     token_law version_judge version_word (λ _. Unit {0}) (λ v x e. (version_to v x e, tt)) (λ x good. version_back x)
 
+-- the first line is read as it is spelled, and spelled as it is read
 pub heading_law : IsExact (keyed (codes "certificate") version) always
 heading_law = keyed_law syntax (codes "certificate") version_law
 
--- ---- what a problem says of the rows behind it
+-- ---- what a problem says of the rows after it
 
 lines_shape : (l : Lines) → IsLines l → IsShape (shape_of l)
 lines_shape l is = record {
@@ -87,39 +99,39 @@ draft_shape s t d read =
 
 -- ---- the answer
 
-module _ (s t u : Left) (d : ProblemDraft) (o : Outcome) (read : problem_draft s ≡ Ok (d, t))
-    (answer : answered d t ≡ Ok (o, u)) where
-  abbrev taken : Takes t ((closed (codes "end") (keyed (codes "answer") (outcome (shape_of d.lines)))).spell o) u
-      × (outcome (shape_of d.lines)).Good o
-  taken = (answered_law (shape_of d.lines) (draft_shape s t d read)).takes t o u answer
+module _ (s t u : Left) (v : Version) (d : ProblemDraft) (a : Answer) (read : problem_draft s ≡ Ok (d, t))
+    (behind : answered v d t ≡ Ok (a, u)) where
+  abbrev taken : Takes t
+      ((closed (codes "end") (keyed (codes "answer") (answer (has_hints v) (shape_of d.lines)))).spell a) u
+      × (answer (has_hints v) (shape_of d.lines)).Good a
+  taken = (answered_law (shape_of d.lines) (draft_shape s t d read) (has_hints v)).takes t a u behind
 
-  -- an answer that was read can follow its problem
-  pub answer_follows : CanFollow d o
-  answer_follows = taken.1
-
-  -- its logs aren't too long where the tokens are few
-  pub answer_bounded : length t.tokens < 2 ^ 32 → AreBounded o
-  answer_bounded few =
-      let spelled = (outcome (shape_of d.lines)).spell o in
-      outcome_bounded (shape_of d.lines) o
-      (omega (
+  -- an answer that was read from a short text can follow its problem
+  pub answer_follows : IsShort t → CanFollow v d a
+  answer_follows short =
+      let spelled = (answer (has_hints v) (shape_of d.lines)).spell a in
+      let all = codes "answer" ∷ (spelled ++ codes "end" ∷ []) in
+      let few : bytes spelled ≤ 2 ^ 32 =
+      omega (
         arith,
-        few,
-        Takes-length t (codes "answer" ∷ (spelled ++ codes "end" ∷ [])) u taken.0,
-        length-append spelled (codes "end" ∷ []),
-      ))
+        taken_short t all u taken.0 short,
+        before_bytes (codes "answer") (spelled ++ codes "end" ∷ []),
+        both_bytes spelled (codes "end" ∷ []),
+      ) in
+      let stands = answer_stands v (shape_of d.lines) (has_hints v) refl a taken.1 few in
+      record { outcome = stands.good; bounded = stands.bounded; proofs = stands.proofs }
 
 -- ---- certificates that are read are spelled so
 
-record IsSettledTo (v : Version) (o : Outcome) (r : Result Problem Refusal) (c : Certificate) : Type 0 where
+record IsSettledTo (v : Version) (a : Answer) (r : Result Problem Refusal) (c : Certificate) : Type 0 where
   problem : Problem
   settles : r ≡ Ok problem
-  is : record { version = v; problem = problem; outcome = o } ≡ c
+  is : record { version = v; problem = problem; outcome = a.outcome; proofs = a.proofs } ≡ c
 
-settled_parts : (v : Version) (o : Outcome) (r : Result Problem Refusal) (c : Certificate) →
-    settled_with v o r ≡ Ok c → IsSettledTo v o r c
-settled_parts v o (Ok p) c e = record { problem = p; settles = refl; is = cc }
-settled_parts v o (Err r) c e = absurd (let f : ◌≡◌ {A = Result Certificate Refusal} (Err r) (Ok c) = e in cc)
+settled_parts : (v : Version) (a : Answer) (r : Result Problem Refusal) (c : Certificate) →
+    settled_with v a r ≡ Ok c → IsSettledTo v a r c
+settled_parts v a (Ok p) c e = record { problem = p; settles = refl; is = cc }
+settled_parts v a (Err r) c e = absurd (let f : ◌≡◌ {A = Result Certificate Refusal} (Err r) (Ok c) = e in cc)
 
 -- what was read to a draft
 record IsRead (s t : Left) (d : Draft) : Type 0 where
@@ -127,15 +139,15 @@ record IsRead (s t : Left) (d : Draft) : Type 0 where
   behind_problem : Left
   heading : (keyed (codes "certificate") version).read s ≡ Ok (d.version, behind_version)
   problem : problem_draft behind_version ≡ Ok (d.problem, behind_problem)
-  answer : answered d.problem behind_problem ≡ Ok (d.outcome, t)
+  answer : answered d.version d.problem behind_problem ≡ Ok (d.answer, t)
 
 read_parts : (s t : Left) (d : Draft) → draft s ≡ Ok (d, t) → IsRead s t d
 unfolding draft
 read_parts s t d e =
     let f = bind_ok ((keyed (codes "certificate") version).read s) _ (d, t) e in
     let g = bind_ok (problem_draft f.0.1) _ (d, t) f.2 in
-    let h = bind_ok (answered g.0.0 g.0.1) _ (d, t) g.2 in
-    let made : Draft × Left = (record { version = f.0.0; problem = g.0.0; outcome = h.0.0 }, h.0.1) in
+    let h = bind_ok (answered f.0.0 g.0.0 g.0.1) _ (d, t) g.2 in
+    let made : Draft × Left = (record { version = f.0.0; problem = g.0.0; answer = h.0.0 }, h.0.1) in
     subst (λ (q : Draft × Left). IsRead s q.1 q.0) (ok_is made (d, t) h.2)
     (record {
       behind_version = f.0.1;
@@ -145,32 +157,35 @@ read_parts s t d e =
       answer = h.1;
     })
 
--- the words of a settled draft's certificate were taken, and the certificate is within all limits where they are few
+-- the words of a settled draft's certificate were taken, and the certificate is within all limits where the text is
+-- short
 pub certificate_takes : (s t : Left) (d : Draft) (c : Certificate) → draft s ≡ Ok (d, t) → settled d ≡ Ok c →
-    length s.tokens < 2 ^ 32 → Takes s (certificate_words c) t × IsCertificate c
+    IsShort s → Takes s (certificate_words c) t × IsCertificate c
 unfolding version
-certificate_takes s t d c read settles few =
+certificate_takes s t d c read settles short =
     let r = read_parts s t d read in
-    let to = settled_parts d.version d.outcome (settled_problem d.problem) c settles in
+    let to = settled_parts d.version d.answer (settled_problem d.problem) c settles in
     let p = to.problem in
     let heading = heading_law.takes s d.version r.behind_version r.heading in
     let is = draft_takes r.behind_version r.behind_problem d.problem p r.problem to.settles in
     let shape = ap shape_of is.lines in
-    let follows = answer_follows r.behind_version r.behind_problem t d.problem d.outcome r.problem r.answer in
-    let answer = (taken r.behind_version r.behind_problem t d.problem d.outcome r.problem r.answer).0 in
-    let behind : Takes r.behind_problem (codes "answer" ∷ ((outcome (shape_of (named p))).spell d.outcome ++ codes "end" ∷ [])) t =
-    subst (λ (k : Shape). Takes r.behind_problem (codes "answer" ∷ ((outcome k).spell d.outcome ++ codes "end" ∷ [])) t) shape answer in
-    let one = Takes-length s _ r.behind_version heading.0 in
-    let two = Takes-length r.behind_version _ r.behind_problem is.taken in
+    let left = left_short r.behind_version (problem.spell (named p)) r.behind_problem is.taken
+    (left_short s (codes "certificate" ∷ version_word d.version ∷ []) r.behind_version heading.0 short) in
+    let follows =
+    answer_follows r.behind_version r.behind_problem t d.version d.problem d.answer r.problem r.answer left in
+    let spelled : Shape → Words =
+    λ k. codes "answer" ∷ ((answer (has_hints d.version) k).spell d.answer ++ codes "end" ∷ []) in
+    let behind : Takes r.behind_problem (spelled (shape_of (named p))) t =
+    subst (λ (k : Shape). Takes r.behind_problem (spelled k) t) shape
+    (taken r.behind_version r.behind_problem t d.version d.problem d.answer r.problem r.answer).0 in
     subst (λ (k : Certificate). Takes s (certificate_words k) t × IsCertificate k) to.is (
       Takes-then s (codes "certificate" ∷ version_word d.version ∷ []) r.behind_version _ t heading.0
           (Takes-then r.behind_version (problem.spell (named p)) r.behind_problem _ t is.taken behind),
       record {
         problem = is.limits;
-        outcome = subst (λ (k : Shape). (outcome k).Good d.outcome) shape follows;
-        bounded =
-            answer_bounded r.behind_version r.behind_problem t d.problem d.outcome r.problem r.answer
-            (omega (arith, few, one, two));
+        outcome = subst (λ (k : Shape). (outcome k).Good d.answer.outcome) shape follows.outcome;
+        bounded = follows.bounded;
+        proofs = follows.proofs;
       },
     )
 
@@ -188,21 +203,29 @@ pub certificate_again : (s t : Left) (c : Certificate) → IsCertificate c → T
 unfolding version draft
 certificate_again s t c is taken =
     let l = named c.problem in
-    let answer = codes "answer" ∷ ((outcome (shape_of l)).spell c.outcome ++ codes "end" ∷ []) in
-    let one = Takes-halves s (codes "certificate" ∷ version_word c.version ∷ []) (problem.spell l ++ answer) t taken in
-    let two = Takes-halves one.between (problem.spell l) answer t one.second in
+    let by_hints = has_hints c.version in
+    let last = codes "answer" ∷ ((answer by_hints (shape_of l)).spell (answer_of c) ++ codes "end" ∷ []) in
+    let one = Takes-halves s (codes "certificate" ∷ version_word c.version ∷ []) (problem.spell l ++ last) t taken in
+    let two = Takes-halves one.between (problem.spell l) last t one.second in
+    let good = good_answer (shape_of l) c.version by_hints refl c.outcome c.proofs is.outcome is.proofs in
     let has = draft_again one.between two.between c.problem is.problem two.first in
-    let behind : answered has.found two.between ≡ Ok (c.outcome, t) =
-    ap (λ (k : Lines). (closed (codes "end") (keyed (codes "answer") (outcome (shape_of k)))).read two.between) has.lines
-    ∙ (answered_law (shape_of l) (problem_shape c.problem is.problem)).again two.between c.outcome t is.outcome two.second tt in
+    let behind : answered c.version has.found two.between ≡ Ok (answer_of c, t) =
+    ap (λ (k : Lines). (closed (codes "end") (keyed (codes "answer") (answer by_hints (shape_of k)))).read two.between)
+    has.lines
+    ∙ (answered_law (shape_of l) (problem_shape c.problem is.problem) by_hints).again two.between (answer_of c) t good
+    two.second tt in
     record {
-      found = record { version = c.version; problem = has.found; outcome = c.outcome };
+      found = record { version = c.version; problem = has.found; answer = answer_of c };
       read =
-          ap (onward (λ v. problem_draft >>= λ d. answered d >>= λ o. done (record { version = v; problem = d; outcome = o })))
+          ap
+          (onward
+          (λ v. problem_draft >>= λ d. answered v d >>= λ a. done (record { version = v; problem = d; answer = a })))
           (heading_law.again s c.version one.between tt one.first tt)
-          ∙ ap (onward (λ d. answered d >>= λ o. done (record { version = c.version; problem = d; outcome = o }))) has.read
-          ∙ ap (onward (λ o. done (record { version = c.version; problem = has.found; outcome = o }))) behind;
-      settles = ap (settled_with c.version c.outcome) has.settles;
+          ∙ ap
+          (onward (λ d. answered c.version d >>= λ a. done (record { version = c.version; problem = d; answer = a })))
+          has.read
+          ∙ ap (onward (λ a. done (record { version = c.version; problem = has.found; answer = a }))) behind;
+      settles = ap (settled_with c.version (answer_of c)) has.settles;
     }
 
 -- ---- whole texts
@@ -241,7 +264,7 @@ reads_from : (text : List ℕ) (c : Certificate) → length text < 2 ^ 32 → ce
 reads_from text c short e =
     let f = found_in text c (bad_byte text) refl e in
     let took =
-    certificate_takes (text_left text) f.left f.found c f.read f.settles (omega (arith, short, tokens_length 0 text)) in
+    certificate_takes (text_left text) f.left f.found c f.read f.settles (text_short text short) in
     record {
       allowed = f.allowed;
       spelled =
@@ -270,24 +293,30 @@ reads_to text c reads =
 settled_so : (text : List ℕ) → length text < 2 ^ 32 → (answer : Result Certificate Refusal) →
     certificate_of text ≡ answer → IsSettledCertificate text
 settled_so text short (Ok c) e =
-    inl (c, reads_from text c short e, λ r h. let f : ◌≡◌ {A = Result Certificate Refusal} (Ok c) (Err r) = sym e ∙ h in cc)
+    inl
+    (c, reads_from text c short e, λ r h. let f : ◌≡◌ {A = Result Certificate Refusal} (Ok c) (Err r) = sym e ∙ h in cc)
 settled_so text short (Err r) e =
-    inr (r, e, λ c reads. let f : ◌≡◌ {A = Result Certificate Refusal} (Err r) (Ok c) = sym e ∙ reads_to text c reads in cc)
+    inr
+    (r, e, λ c reads. let f : ◌≡◌ {A = Result Certificate Refusal} (Err r) (Ok c) = sym e ∙ reads_to text c reads in cc)
 
+-- each text is some certificate's, or has a first refusal
 pub all_texts_settled : (text : List ℕ) → length text < 2 ^ 32 → IsSettledCertificate text
 all_texts_settled text short = settled_so text short (certificate_of text) refl
 
 -- ---- what an exact answer says
 
+-- what is read of a text is its certificate
 pub found_by : (text : List ℕ) (result : Result Certificate ReadError) → length text < 2 ^ 32 →
     Answers (λ c. c) result (certificate_of text) → IfOk result (λ c. Reads text c)
 found_by text (Ok c) short h = reads_from text c short h
 found_by text (Err e) short h = tt
 
+-- a certificate's text is read as that certificate, and as no other
 pub only_by : (text : List ℕ) (result : Result Certificate ReadError) → Answers (λ c. c) result (certificate_of text) →
     (c : Certificate) → Reads text c → Answers (λ k. k) result (Ok c)
 only_by text result h c reads = subst (Answers (λ k. k) result) (reads_to text c reads) h
 
+-- what is refused of a text is its first refusal
 pub first_by : (text : List ℕ) (result : Result Certificate ReadError) → Answers (λ c. c) result (certificate_of text) →
     IfErr result (λ e. IfRefused e (λ r. certificate_of text ≡ Err r))
 first_by text (Ok c) h = tt

@@ -1,4 +1,4 @@
--- How many negative examples there are behind a last turn.
+-- How many negative examples there are after a last turn.
 use Rattle.std.proofs.Common.{◌≡◌, ℕ, List, [], ◌∷◌, ◌++◌, refl}
 use Rattle.am_query.specs.declared.turn.Turn.{Turn}
 use Rattle.am_cert.specs.Grammar.{negative_count, negatives_behind, negatives_from}

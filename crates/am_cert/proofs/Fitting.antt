@@ -15,8 +15,7 @@ use Rattle.am_syntax.specs.Pieces.{keyed, times}
 use Rattle.am_syntax.specs.Spelling.{FitsSomewhere, IsScope, scope_of}
 use Rattle.am_cert.specs.Certificate.{Certificate, IsCertificate}
 use Rattle.am_cert.specs.Grammar.{Shape, asked, best, none, outcome, result_term, shape_of, spent_conflicts}
-use Rattle.am_cert.specs.Grammar.{spent_turns}
-use Rattle.am_cert.specs.Grammar.{term_limits, terms, turn, turns}
+use Rattle.am_cert.specs.Grammar.{spent_turns, term_limits, terms, turn, turns}
 use Rattle.am_cert.specs.inside.Printable.{AreTerms, IsPrintable, IsPrintableAsked, IsPrintableTurn}
 use Rattle.am_cert.proofs.Items.{all_from_good}
 

@@ -33,6 +33,7 @@ module _ (p : Problem) (terms : List Term) (i : ℕ) (counted : length terms ≡
   count : length (zip p.starts terms) ≡ length terms
   count = omega (arith, counted, length-zip p.starts terms)
 
+  -- once all terms are given, the test of the terms passes
   pub all_inside : length terms ≤ i → (terms_inside p terms).Passes
   all_inside past = (
     good_passes Given (zip p.starts terms) i so_far TermOutside (omega (arith, count, past)),
@@ -50,10 +51,12 @@ module _ (p : Problem) (terms : List Term) (i : ℕ) (counted : length terms ≡
     inside : i < length (zip p.starts terms)
     inside = omega (arith, within, count)
 
+    -- a term whose tree was found is given, as those before it are
     pub term_given : is_some found ≡ true → All Given (take (i + 1) (zip p.starts terms))
     term_given some =
         good_more Given (zip p.starts terms) i so_far (start, term) inside both (found_given p start term found is some)
 
+    -- a term whose tree wasn't found is the fault of the test
     pub term_outside : is_some found ≡ false → (terms_inside p terms).Fails (TermOutside i)
     term_outside none =
         inl (bad_fails Given (zip p.starts terms) i so_far (start, term) inside both TermOutside

@@ -7,13 +7,13 @@ use Rattle.am_syntax.specs.Pieces.{below, good_from}
 use Rattle.am_query.specs.Turns.{at_places}
 use Rattle.am_cert.specs.Grammar.{place_behind}
 
--- the least place behind some places and a further one
+-- the least place after some places and a further one
 place_behind-push : (places : List ℕ) (i : ℕ) → place_behind (places ++ i ∷ []) ≡ i + 1
 place_behind-push [] i = refl
 place_behind-push (j ∷ []) i = refl
 place_behind-push (j ∷ k ∷ places) i = place_behind-push (k ∷ places) i
 
--- rising places of so many, behind those that were seen
+-- rising places of so many, after those that were seen
 abbrev pub AreRisingFrom : ℕ → List ℕ → List ℕ → Type 0
 AreRisingFrom count seen places = good_from (λ seen. below (place_behind seen) (min count (2 ^ 32))) seen places
 

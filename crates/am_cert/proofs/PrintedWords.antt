@@ -1,16 +1,13 @@
 -- What was printed reads back: the words of a canonical text are those of its rows, which are the certificate's.
-use Rattle.std.proofs.Common.{◌≡◌, ℕ, ◌+◌, ◌*◌, ◌^◌, min, true, List, [], ◌∷◌, ◌++◌, All, codes, decimal, flat_map}
-use Rattle.std.proofs.Common.{map, ap, sym, refl, ◌∙◌}
-use Rattle.std.specs.List.{AllByRecursion}
+use Rattle.std.proofs.Common.{◌≡◌, ℕ, ◌+◌, ◌*◌, ◌^◌, min, Bool, true, false, List, [], ◌∷◌, ◌++◌, codes, decimal}
+use Rattle.std.proofs.Common.{flat_map, map, ap, sym, refl, ◌∙◌}
+use Rattle.std.proofs.lemmas.Bool.{both_ways}
 use Rattle.std.proofs.lemmas.List.Concat.{flat_map_single}
-use Rattle.std.proofs.lemmas.List.Elements.{All-head, All-tail}
 use Rattle.std.proofs.lemmas.List.Folds.{flat_map-map}
 use Rattle.am_bv.specs.declared.term.Term.{Term}
 use Rattle.am_chain.specs.declared.chain.Chain.{Chain}
-use Rattle.am_chain.specs.declared.chain.Step.{Step}
-use Rattle.am_problem.proofs.Laws.{both_tokens, is_plain, joined, joined-append, lines_of_formed, plain_token}
-use Rattle.am_problem.proofs.Laws.{rows_spelled}
-use Rattle.am_problem.proofs.Laws.{rows_tokens}
+use Rattle.am_hint.specs.declared.hint.Hint.{Hint}
+use Rattle.am_problem.proofs.Laws.{joined, joined-append, rows_spelled}
 use Rattle.am_problem.specs.Grammar.{problem}
 use Rattle.am_problem.specs.Printing.{problem_rows}
 use Rattle.am_problem.specs.Texts.{named}
@@ -21,146 +18,26 @@ use Rattle.am_query.specs.declared.outcome.Outcome.{Outcome}
 use Rattle.am_query.specs.declared.outcome.Outcome.TheVariants.{Absent, Best, Conflicts, Turns}
 use Rattle.am_query.specs.declared.turn.Turn.{Turn}
 use Rattle.am_query.specs.declared.turn.Turn.TheVariants.{Negative as NegativeTurn, Positive as PositiveTurn}
-use Rattle.am_syntax.proofs.Laws.{digits_is_token, digits_of_any, lines_is_text, lines_words, term_is_tokens}
-use Rattle.am_syntax.proofs.Laws.{tokens-append}
-use Rattle.am_syntax.specs.Canonical.{AreTokens, IsToken}
+use Rattle.am_syntax.proofs.Laws.{lines_is_text, lines_words}
 use Rattle.am_syntax.specs.Pieces.{Piece, below, key_or, keyed, number, times}
 use Rattle.am_syntax.specs.Readers.{Word, Words}
-use Rattle.am_syntax.specs.Spelling.{FitsSomewhere, letter_code, term_words}
+use Rattle.am_syntax.specs.Spelling.{letter_code, term_words}
 use Rattle.am_syntax.specs.declared.limits.Letter.TheVariants.{F}
-use Rattle.am_cert.specs.Certificate.{Certificate, IsCertificate}
-use Rattle.am_cert.specs.Grammar.{Shape, asked, best, chain, example, log, negative_count, none, outcome}
-use Rattle.am_cert.specs.Grammar.{place_behind, places}
+use Rattle.am_cert.specs.Certificate.{AreHintsOf, AreProofsOf, Certificate, IsCertificate}
+use Rattle.am_cert.specs.Grammar.{Shape, answer, asked, best, chain, code, example, hint, hinted_best, hinted_none}
+use Rattle.am_cert.specs.Grammar.{hints, log, negative_count, none, numbers, outcome, place_behind, places}
 use Rattle.am_cert.specs.Grammar.{result_term, shape_of, spent_conflicts, spent_turns, step, terms, turn, turns}
 use Rattle.am_cert.specs.Grammar.{version_word, word, words}
-use Rattle.am_cert.specs.Printing.{answer_row, asked_words, certificate_rows, certificate_text, chain_row}
-use Rattle.am_cert.specs.Printing.{example_words}
-use Rattle.am_cert.specs.Printing.{log_rows, outcome_rows, step_words, term_row, terms_words, turn_row}
+use Rattle.am_cert.specs.Printing.{answer_row, answer_rows, asked_words, certificate_rows, certificate_text}
+use Rattle.am_cert.specs.Printing.{chain_row, example_words, hint_row, hinted_rows, hints_rows, log_rows}
+use Rattle.am_cert.specs.Printing.{outcome_rows, step_words, term_row, terms_words, turn_row}
 use Rattle.am_cert.specs.Texts.{Reads, certificate_words}
 use Rattle.am_cert.specs.declared.version.Version.{Version}
-use Rattle.am_cert.specs.declared.version.Version.TheVariants.{One, Two}
-use Rattle.am_cert.specs.inside.Printable.{AreTerms, IsPrintable, IsPrintableAsked, IsPrintableTurn}
-use Rattle.am_cert.proofs.Fitting.{certificates_are_printable}
+use Rattle.am_cert.specs.Versions.{has_hints}
+use Rattle.am_cert.specs.declared.answer.Proofs.{Proofs}
+use Rattle.am_cert.specs.declared.answer.Proofs.TheVariants.{Chains, Hinted}
 use Rattle.am_cert.proofs.Items.{spelled_each}
-
--- ---- the words of the rows are tokens
-
-numeral : (n : ℕ) → IsToken (decimal n)
-numeral n = digits_is_token (decimal n) (digits_of_any n)
-
-key : (v : Word) → is_plain v ≡ true → IsToken v
-key v plain = plain_token v plain
-
-numerals : (ns : List ℕ) → AreTokens (map decimal ns)
-numerals [] = tt
-numerals (n ∷ ns) = (numeral n, numerals ns)
-
-term_tokens : (t : Term) → FitsSomewhere t → AreTokens (term_words (letter_code F) t)
-term_tokens t fits = term_is_tokens F fits.scope fits.is t fits.fit
-
-terms_tokens : (ts : List Term) → AreTerms ts → AreTokens (terms_words ts)
-terms_tokens [] fit = tt
-terms_tokens (t ∷ ts) fit =
-    tokens-append (term_words (letter_code F) t) (terms_words ts)
-    (term_tokens t (All-head FitsSomewhere t ts fit)) (terms_tokens ts (All-tail FitsSomewhere t ts fit))
-
--- numbers, and a key word and other words behind them
-numbers_then : (ns : List ℕ) (v : Word) (ws : Words) → is_plain v ≡ true → AreTokens ws →
-    AreTokens (map decimal ns ++ (v ∷ ws))
-numbers_then ns v ws plain are = tokens-append (map decimal ns) (v ∷ ws) (numerals ns) (key v plain, are)
-
-example_tokens : (t : List Term) (e : Positive) (ns : List ℕ) → AreTerms t →
-    AreTokens (example_words t e (map decimal ns))
-example_tokens t e ns fit =
-    let kept = map decimal ns in
-    let words = map decimal e.words ++ (codes "kept" ∷ kept) in
-    tokens-append (terms_words t) (codes "in" ∷ (map decimal e.inputs ++ (codes "word" ∷ words)))
-    (terms_tokens t fit) (
-      key (codes "in") refl,
-      numbers_then e.inputs (codes "word") words refl (numbers_then e.words (codes "kept") kept refl (numerals ns)),
-    )
-
-turn_tokens : (t : Turn) → IsPrintableTurn t → AreTokens (turn_row t)
-turn_tokens (PositiveTurn t e kept) fit = (key (codes "positive") refl, example_tokens t e kept fit)
-turn_tokens (NegativeTurn t e) fit = (
-  key (codes "negative") refl,
-  tokens-append (terms_words t) (codes "in" ∷ (map decimal e.inputs ++ (codes "out" ∷ decimal e.word ∷ [])))
-      (terms_tokens t fit)
-      (key (codes "in") refl, numbers_then e.inputs (codes "out") (decimal e.word ∷ []) refl (numeral e.word, tt)),
-)
-
-asked_tokens : (a : Asked) → IsPrintableAsked a → AreTokens (asked_words a)
-asked_tokens Start fit = (key (codes "start") refl, tt)
-asked_tokens (Keep t e places) fit = (key (codes "keep") refl, example_tokens t e places fit)
-asked_tokens (Sound t) fit = (key (codes "sound") refl, terms_tokens t fit)
-asked_tokens (Precise t) fit = (key (codes "precise") refl, terms_tokens t fit)
-
-steps_tokens : (steps : List Step) → AreTokens (flat_map step_words steps)
-steps_tokens [] = tt
-steps_tokens (step ∷ steps) = (numeral step.variable, (numeral step.clause, steps_tokens steps))
-
-chains_tokens : (chains : List Chain) → AllByRecursion AreTokens (map chain_row chains)
-chains_tokens [] = tt
-chains_tokens (c ∷ chains) =
-    ((key (codes "chain") refl, (numeral c.first, steps_tokens c.steps)), chains_tokens chains)
-
-log_tokens : (name : Word) (chains : List Chain) → is_plain name ≡ true →
-    AllByRecursion AreTokens (log_rows name chains)
-log_tokens name chains plain = ((key (codes "log") refl, (key name plain, tt)), chains_tokens chains)
-
-term_rows_tokens : (ts : List Term) → AreTerms ts → AllByRecursion AreTokens (map term_row ts)
-term_rows_tokens [] fit = tt
-term_rows_tokens (t ∷ ts) fit = (
-  (key (codes "term") refl, term_tokens t (All-head FitsSomewhere t ts fit)),
-  term_rows_tokens ts (All-tail FitsSomewhere t ts fit),
-)
-
-trace_tokens : (trace : List Turn) → All IsPrintableTurn trace → AllByRecursion AreTokens (map turn_row trace)
-trace_tokens [] fit = tt
-trace_tokens (t ∷ trace) fit =
-    (turn_tokens t (All-head IsPrintableTurn t trace fit), trace_tokens trace (All-tail IsPrintableTurn t trace fit))
-
-answer_tokens : (name : Word) → is_plain name ≡ true → AreTokens (answer_row name)
-answer_tokens name plain = (key (codes "answer") refl, (key name plain, tt))
-
-outcome_tokens : (o : Outcome) → IsPrintable o → AllByRecursion AreTokens (outcome_rows o)
-outcome_tokens (Best t trace sound_log best_log) fit =
-    let sound = log_rows (codes "sound") sound_log in
-    let best = log_rows (codes "best") best_log in (
-      answer_tokens (codes "best") refl,
-      both_tokens (map term_row t) (map turn_row trace ++ (sound ++ best)) (term_rows_tokens t fit.0)
-          (both_tokens (map turn_row trace) (sound ++ best) (trace_tokens trace fit.1)
-          (both_tokens sound best (log_tokens (codes "sound") sound_log refl)
-          (log_tokens (codes "best") best_log refl))),
-    )
-outcome_tokens (Absent trace log) fit = (
-  answer_tokens (codes "none") refl,
-  both_tokens (map turn_row trace) (log_rows (codes "fit") log) (trace_tokens trace fit)
-      (log_tokens (codes "fit") log refl),
-)
-outcome_tokens (Turns trace) fit = (answer_tokens (codes "turns") refl, trace_tokens trace fit)
-outcome_tokens (Conflicts trace asked log) fit =
-    let query = codes "query" ∷ asked_words asked in (
-      answer_tokens (codes "conflicts") refl,
-      both_tokens (map turn_row trace) (query ∷ log_rows (codes "spent") log) (trace_tokens trace fit.0)
-          ((key (codes "query") refl, asked_tokens asked fit.1), log_tokens (codes "spent") log refl),
-    )
-
-version_plain : (v : Version) → is_plain (version_word v) ≡ true
-version_plain One = refl
-version_plain Two = refl
-
-rows_are_tokens : (c : Certificate) → IsCertificate c → AllByRecursion AreTokens (certificate_rows c)
-rows_are_tokens c is =
-    let lines = named c.problem in
-    let end : List Words = (codes "end" ∷ []) ∷ [] in
-    let last : AllByRecursion AreTokens end = ((key (codes "end") refl, tt), tt) in (
-      (key (codes "certificate") refl, (key (version_word c.version) (version_plain c.version), tt)),
-      both_tokens (problem_rows lines) (outcome_rows c.outcome ++ end)
-          (rows_tokens lines (lines_of_formed c.problem is.problem.formed))
-          (both_tokens (outcome_rows c.outcome) end
-          (outcome_tokens c.outcome (certificates_are_printable c is)) last),
-    )
+use Rattle.am_cert.proofs.PrintedTokens.{rows_are_tokens}
 
 -- ---- the words of the rows are the certificate's
 
@@ -239,6 +116,25 @@ log_spelled name chains =
     ap (λ (ws : Words). codes "log" ∷ name ∷ ws)
     (joined_rows chain_row chains ∙ sym (spelled_each (λ _. chain) chain_row (λ _ c. chain_spelled c) [] chains))
 
+-- ---- hints
+
+numbers_spelled : (ns : List ℕ) → numbers.spell ns ≡ map decimal ns
+unfolding number
+numbers_spelled ns =
+    spelled_each (λ _. code) (λ n. decimal n ∷ []) (λ _ n. refl) [] ns ∙ flat_map_single decimal ns
+
+hint_spelled : (h : Hint) → hint.spell h ≡ hint_row h
+unfolding hint
+hint_spelled h =
+    ap (λ (ws : Words). codes "clause" ∷ (ws ++ (codes "by" ∷ numbers.spell h.by))) (numbers_spelled h.clause)
+    ∙ ap (λ (ws : Words). codes "clause" ∷ (map decimal h.clause ++ (codes "by" ∷ ws))) (numbers_spelled h.by)
+
+hints_spelled : (name : Word) (hs : List Hint) → joined (hints_rows name hs) ≡ (hints name).spell hs
+unfolding hints
+hints_spelled name hs =
+    ap (λ (ws : Words). codes "log" ∷ name ∷ ws)
+    (joined_rows hint_row hs ∙ sym (spelled_each (λ _. hint) hint_row (λ _ h. hint_spelled h) [] hs))
+
 -- ---- answers
 
 module _ (s : Shape) where
@@ -250,35 +146,49 @@ module _ (s : Shape) where
       joined_rows term_row ts
       ∙ sym (spelled_each (λ _. keyed (codes "term") (result_term s)) term_row (λ _ t. refl) [] ts)
 
+  -- a key word, the lines of terms, turns, and two rows of lines
+  four_spelled : (t : List Term) (trace : List Turn) (third fourth : List Words) (three four : Words) →
+      joined third ≡ three → joined fourth ≡ four →
+      joined (answer_row (codes "best") ∷ (map term_row t ++ (map turn_row trace ++ (third ++ fourth)))) ≡
+      codes "answer" ∷ codes "best" ∷ (term_lines.spell t ++ ((turns s s.turns).spell trace ++ (three ++ four)))
+  four_spelled t trace third fourth three four is_third is_fourth =
+      let turn_rows = map turn_row trace in
+      let one = term_lines.spell t in
+      let two = (turns s s.turns).spell trace in
+      ap (λ (ws : Words). codes "answer" ∷ codes "best" ∷ ws)
+      (joined-append (map term_row t) (turn_rows ++ (third ++ fourth))
+      ∙ ap (λ (ws : Words). ws ++ joined (turn_rows ++ (third ++ fourth))) (term_lines_spelled t)
+      ∙ ap (λ (ws : Words). one ++ ws) (joined-append turn_rows (third ++ fourth)
+      ∙ ap (λ (ws : Words). ws ++ joined (third ++ fourth)) (trace_spelled s s.turns trace)
+      ∙ ap (λ (ws : Words). two ++ ws) (joined-append third fourth
+      ∙ ap (λ (ws : Words). ws ++ joined fourth) is_third
+      ∙ ap (λ (ws : Words). three ++ ws) is_fourth)))
+
+  -- a key word, turns, and a row of lines
+  two_spelled : (trace : List Turn) (rows : List Words) (two : Words) → joined rows ≡ two →
+      joined (answer_row (codes "none") ∷ (map turn_row trace ++ rows)) ≡
+      codes "answer" ∷ codes "none" ∷ ((turns s s.turns).spell trace ++ two)
+  two_spelled trace rows two is =
+      ap (λ (ws : Words). codes "answer" ∷ codes "none" ∷ ws)
+      (joined-append (map turn_row trace) rows
+      ∙ ap (λ (ws : Words). ws ++ joined rows) (trace_spelled s s.turns trace)
+      ∙ ap (λ (ws : Words). (turns s s.turns).spell trace ++ ws) is)
+
   best_spelled : (t : List Term) (trace : List Turn) (sound_log best_log : List Chain) →
       joined (outcome_rows (Best t trace sound_log best_log)) ≡
       codes "answer" ∷ (outcome s).spell (Best t trace sound_log best_log)
   unfolding outcome best
   best_spelled t trace sound_log best_log =
-      let sound = log_rows (codes "sound") sound_log in
-      let closest = log_rows (codes "best") best_log in
-      let turn_rows = map turn_row trace in
-      let first = term_lines.spell t in
-      let second = (turns s s.turns).spell trace in
-      let third = (log (codes "sound")).spell sound_log in
-      ap (λ (ws : Words). codes "answer" ∷ codes "best" ∷ ws)
-      (joined-append (map term_row t) (turn_rows ++ (sound ++ closest))
-      ∙ ap (λ (ws : Words). ws ++ joined (turn_rows ++ (sound ++ closest))) (term_lines_spelled t)
-      ∙ ap (λ (ws : Words). first ++ ws) (joined-append turn_rows (sound ++ closest)
-      ∙ ap (λ (ws : Words). ws ++ joined (sound ++ closest)) (trace_spelled s s.turns trace)
-      ∙ ap (λ (ws : Words). second ++ ws) (joined-append sound closest
-      ∙ ap (λ (ws : Words). ws ++ joined closest) (log_spelled (codes "sound") sound_log)
-      ∙ ap (λ (ws : Words). third ++ ws) (log_spelled (codes "best") best_log))))
+      four_spelled t trace (log_rows (codes "sound") sound_log) (log_rows (codes "best") best_log)
+      ((log (codes "sound")).spell sound_log) ((log (codes "best")).spell best_log)
+      (log_spelled (codes "sound") sound_log) (log_spelled (codes "best") best_log)
 
   none_spelled : (trace : List Turn) (chains : List Chain) →
       joined (outcome_rows (Absent trace chains)) ≡ codes "answer" ∷ (outcome s).spell (Absent trace chains)
   unfolding outcome none
   none_spelled trace chains =
-      let rows = log_rows (codes "fit") chains in
-      ap (λ (ws : Words). codes "answer" ∷ codes "none" ∷ ws)
-      (joined-append (map turn_row trace) rows
-      ∙ ap (λ (ws : Words). ws ++ joined rows) (trace_spelled s s.turns trace)
-      ∙ ap (λ (ws : Words). (turns s s.turns).spell trace ++ ws) (log_spelled (codes "fit") chains))
+      two_spelled trace (log_rows (codes "fit") chains) ((log (codes "fit")).spell chains)
+      (log_spelled (codes "fit") chains)
 
   turns_spelled : (trace : List Turn) →
       joined (outcome_rows (Turns trace)) ≡ codes "answer" ∷ (outcome s).spell (Turns trace)
@@ -306,18 +216,48 @@ module _ (s : Shape) where
   outcome_spelled (Turns trace) = turns_spelled trace
   outcome_spelled (Conflicts trace a chains) = conflicts_spelled trace a chains
 
+  hinted_spelled : (o : Outcome) (first second : List Hint) → AreHintsOf o first second →
+      joined (hinted_rows o first second) ≡
+      codes "answer" ∷ (answer true s).spell (record { outcome = o; proofs = Hinted first second })
+  unfolding answer hinted_best hinted_none
+  hinted_spelled (Best t trace [] []) first second are =
+      four_spelled t trace (hints_rows (codes "sound") first) (hints_rows (codes "best") second)
+      ((hints (codes "sound")).spell first) ((hints (codes "best")).spell second)
+      (hints_spelled (codes "sound") first) (hints_spelled (codes "best") second)
+  hinted_spelled (Absent trace []) first [] are =
+      two_spelled trace (hints_rows (codes "fit") first) ((hints (codes "fit")).spell first)
+      (hints_spelled (codes "fit") first)
+  hinted_spelled (Best t trace [] (c ∷ best_log)) first second are = absurd are
+  hinted_spelled (Best t trace (c ∷ sound_log) best_log) first second are = absurd are
+  hinted_spelled (Absent trace []) first (h ∷ second) are = absurd are
+  hinted_spelled (Absent trace (c ∷ chains)) first second are = absurd are
+  hinted_spelled (Turns trace) first second are = absurd are
+  hinted_spelled (Conflicts trace asked chains) first second are = absurd are
+
+  proved_spelled : (v : Version) (by_hints : Bool) → has_hints v ≡ by_hints → (o : Outcome) (proofs : Proofs) →
+      AreProofsOf v o proofs →
+      joined (answer_rows o proofs)
+      ≡ codes "answer" ∷ (answer by_hints s).spell (record { outcome = o; proofs = proofs })
+  unfolding answer
+  proved_spelled v false is o Chains are = outcome_spelled o
+  proved_spelled v true is o Chains are = absurd (both_ways (has_hints v) are is)
+  proved_spelled v true is o (Hinted first second) are = hinted_spelled o first second are.1
+  proved_spelled v false is o (Hinted first second) are = absurd (both_ways (has_hints v) is are.0)
+
 -- ---- the whole
 
-certificate_spelled : (c : Certificate) → joined (certificate_rows c) ≡ certificate_words c
-certificate_spelled c =
+certificate_spelled : (c : Certificate) → IsCertificate c → joined (certificate_rows c) ≡ certificate_words c
+certificate_spelled c is =
     let lines = named c.problem in
     let end : List Words = (codes "end" ∷ []) ∷ [] in
-    let rest = outcome_rows c.outcome ++ end in
+    let proved = answer_rows c.outcome c.proofs in
+    let rest = proved ++ end in
     ap (λ (ws : Words). codes "certificate" ∷ version_word c.version ∷ ws)
     (joined-append (problem_rows lines) rest
     ∙ ap (λ (ws : Words). ws ++ joined rest) (rows_spelled lines)
-    ∙ ap (λ (ws : Words). problem.spell lines ++ ws) (joined-append (outcome_rows c.outcome) end
-    ∙ ap (λ (ws : Words). ws ++ codes "end" ∷ []) (outcome_spelled (shape_of lines) c.outcome)))
+    ∙ ap (λ (ws : Words). problem.spell lines ++ ws) (joined-append proved end
+    ∙ ap (λ (ws : Words). ws ++ codes "end" ∷ [])
+    (proved_spelled (shape_of lines) c.version (has_hints c.version) refl c.outcome c.proofs is.proofs)))
 
 -- what was printed reads back
 pub printed_certificates_read : (c : Certificate) → IsCertificate c → Reads (certificate_text c) c
@@ -327,6 +267,6 @@ printed_certificates_read c is =
     let tokens = rows_are_tokens c is in
     record {
       allowed = lines_is_text rows tokens;
-      spelled = lines_words rows tokens ∙ certificate_spelled c;
+      spelled = lines_words rows tokens ∙ certificate_spelled c is;
       limits = is;
     }

@@ -26,6 +26,7 @@ module _ (clauses derived : List (List ℕ)) (log : List Chain) (k : ℕ)
   whole : length log ≤ k → Derives clauses log derived
   whole past = subst (λ (l : List Chain). Derives clauses l derived) (take_all k log past) so_far
 
+  -- a log that was replayed and ends with the empty clause passes
   pub ends_empty : (j : ℕ) → length log ≤ k → EndsEmpty derived → (refuted j clauses log).Passes
   ends_empty j past empty = (derived, whole past, empty)
 
@@ -71,5 +72,5 @@ pub few_steps : (log : List Chain) (k : ℕ) (chain : Chain) → IsBounded log �
 few_steps log k chain bounded there =
     let within = slice_get_within log k chain there in
     let here = get_or_from_slice_get log k chain chain there in
-    let few : length chain.steps < 2 ^ 31 = rw here at (bounded.steps k chain within) in
+    let few : length chain.steps < 2 ^ 30 = rw here at (bounded.steps k chain within) in
     omega (arith, few)

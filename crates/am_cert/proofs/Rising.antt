@@ -8,7 +8,7 @@ use Rattle.am_syntax.specs.Pieces.{below, good_from}
 use Rattle.am_query.specs.Turns.{at_places}
 use Rattle.am_cert.specs.Grammar.{place_behind, places}
 
--- each place is below those behind it
+-- each place is below those after it
 abbrev pub Rises : List ℕ → Type 0
 Rises ns = AllPairs (λ i j. i < j) ns
 
@@ -18,6 +18,7 @@ rises_on n ns rises i j d less within = rises (suc i) (suc j) d (omega (arith, l
 next_higher : (n m : ℕ) (ns : List ℕ) → Rises (n ∷ m ∷ ns) → n < m
 next_higher n m ns rises = rises 0 1 0 (omega arith) (omega arith)
 
+-- each number is below a count
 abbrev pub AreBelow : ℕ → List ℕ → Type 0
 AreBelow count ns = All (λ n. n < count) ns
 
@@ -37,7 +38,7 @@ rising_are_few count (n ∷ ns) rises inside =
 
 -- ---- they are good
 
--- the least place behind some places and one more
+-- the least place after some places and one more
 pub place_behind-push : (seen : List ℕ) (i : ℕ) → place_behind (seen ++ i ∷ []) ≡ i + 1
 place_behind-push [] i = refl
 place_behind-push (j ∷ []) i = refl

@@ -1,5 +1,5 @@
 -- The problem that a draft settles to says of rows what its lines say.
-use Rattle.std.proofs.Common.{◌≡◌, ℕ, ◌≤◌, Bool, true, false, cond, List, length, nat_lt, Option, Some, None, Result, Ok, Err, ap, refl}
+use Rattle.std.proofs.Common.{◌≡◌, ℕ, ◌≤◌, Bool, true, false, cond, length, nat_lt, Option, Some, None, Ok, Err, ap}
 use Rattle.std.proofs.Common.{◌∙◌, arith, length-drop}
 use Rattle.am_problem.specs.Limits.{slots_of}
 use Rattle.am_problem.specs.Lines.{Lines}
@@ -30,7 +30,8 @@ passed p q true heavy a b e = absurd cc
 passed p q false true a b e = absurd cc
 passed p q false false a b e = cc
 
-settled_lines : (l : Lines) (p : Problem) (place : Option ℕ) → settled_by l place ≡ Ok p → shape_of l ≡ shape_of (named p)
+settled_lines : (l : Lines) (p : Problem) (place : Option ℕ) → settled_by l place ≡ Ok p →
+    shape_of l ≡ shape_of (named p)
 settled_lines l p (Some place) e = absurd cc
 settled_lines l p None e =
     ap (λ (q : Problem). shape_of (named q))

@@ -1,7 +1,6 @@
 -- How large the terms of a transformer are: their nodes, and how deep they nest.
-use Rattle.std.proofs.Common.{◌≡◌, ℕ, zero, suc, ◌+◌, ◌*◌, ◌^◌, ◌<◌, ◌≤◌, List, [], ◌∷◌, All, map, max, length}
-use Rattle.std.proofs.Common.{get_or, sum_by}
-use Rattle.std.proofs.Common.{refl, sym, ap, subst, arith, inl, inr, lit≤}
+use Rattle.std.proofs.Common.{◌≡◌, ℕ, zero, suc, ◌+◌, ◌*◌, ◌^◌, ◌<◌, ◌≤◌, List, [], ◌∷◌, All, map, max, length, get_or}
+use Rattle.std.proofs.Common.{sum_by, refl, sym, ap, subst, arith, inl, inr, lit≤}
 use Rattle.std.specs.Prelude.{IsTrue, Option, None, Some}
 use Rattle.std.specs.List.{AllByRecursion, AllZip}
 use Rattle.std.proofs.Math.Nat.{mul-le-mul_right, one-le-pow, pow-le-pow_right, pow-succ'}

@@ -9,8 +9,7 @@ use Rattle.am_syntax.specs.declared.refusal.Cause.{Cause}
 use Rattle.am_syntax.specs.declared.refusal.Cause.TheVariants.{Count}
 use Rattle.am_syntax.specs.declared.refusal.Failure.{Failure}
 use Rattle.am_syntax.specs.declared.refusal.Failure.TheVariants.{Refused}
-use Rattle.am_syntax.proofs.Laws.{key_law, makes_refused, ok_is, one_more_law, reached_ok}
-use Rattle.am_syntax.proofs.Laws.{refused_alike}
+use Rattle.am_syntax.proofs.Laws.{key_law, makes_refused, ok_is, one_more_law, reached_ok, refused_alike}
 use Rattle.am_cert.specs.inside.Shown.{room}
 
 -- the same from another reader that reads alike
@@ -25,7 +24,7 @@ pub gives_refused : {A Y : Type 0} (view : A → Y) (r : Result A Cause) (cause 
 gives_refused {A = A} view r cause old left reader is refused =
     subst (λ (q : Result A Cause). Gives view q old left reader) (sym is) refused
 
--- behind a piece
+-- after a piece
 pub reached_behind : {X : Type 0} {p : Piece X} {May : Words → Type 0} (s t : Left) (x : X) → IsExact p May →
     p.read s ≡ Ok (x, t) → Reached s t
 reached_behind {p = p} s t x law read = reached_ok p.read s t x law.advances read

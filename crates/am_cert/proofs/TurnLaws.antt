@@ -4,10 +4,11 @@ use Rattle.std.specs.Prelude.{◌⊎◌}
 use Rattle.am_query.specs.declared.turn.Turn.{Turn}
 use Rattle.am_query.specs.declared.turn.Turn.TheVariants.{Negative as NegativeTurn, Positive as PositiveTurn}
 use Rattle.am_syntax.specs.Exact.{IsExact, always}
-use Rattle.am_syntax.specs.Pieces.{keyed, next_is, syntax}
+use Rattle.am_syntax.specs.Pieces.{next_is, syntax}
 use Rattle.am_syntax.specs.Readers.{Words}
 use Rattle.am_syntax.proofs.Laws.{choice_law, keyed_law, one_more_law, repeat_law, seen_law, then_law}
-use Rattle.am_cert.specs.Grammar.{CounterParts, ExampleParts, Shape, counterexample, example, is_turn_next, negative_count}
+use Rattle.am_cert.specs.Grammar.{CounterParts, ExampleParts, Shape, counterexample, example, is_turn_next}
+use Rattle.am_cert.specs.Grammar.{negative_count}
 use Rattle.am_cert.specs.Grammar.{turn, turn_of, turn_parts, turns}
 use Rattle.am_cert.specs.inside.Shapes.{IsShape}
 use Rattle.am_cert.proofs.RowLaws.{EndsNumbers, narrow_law, places_law, terms_law, word_law, words_law}
@@ -25,6 +26,7 @@ abbrev pub EndsTurns : Words → Type 0
 EndsTurns rest = (is_turn_next rest ≡ false) × EndsNumbers rest
 
 module _ (s : Shape) (is : IsShape s) where
+  -- an example is read as it is spelled, and spelled as it is read
   pub example_law : (count : ℕ) → IsExact (example s count) EndsNumbers
   example_law count =
       then_law (terms_law s is) (λ _ _.
@@ -40,6 +42,7 @@ module _ (s : Shape) (is : IsShape s) where
       keyed_law syntax (codes "out") (word_law s is))
       (λ _ _ _ _ _ _. tt)) (λ _ _ _ _ _ _. tt)
 
+  -- a turn is read as it is spelled, and spelled as it is read
   pub turn_law : (most : ℕ) (seen : List Turn) → IsExact (turn s most seen) EndsNumbers
   unfolding turn
   turn_law most seen =
@@ -50,6 +53,7 @@ module _ (s : Shape) (is : IsShape s) where
       (λ _ _ _. refl) (λ _ _ _. refl))
       (λ x good. parts_of x) of_parts)
 
+  -- a turn takes a word at least
   pub turn_moves : (most : ℕ) (seen : List Turn) (t : Turn) → (turn s most seen).Good t →
       0 < length ((turn s most seen).spell t)
   unfolding turn
@@ -68,6 +72,7 @@ module _ (s : Shape) (is : IsShape s) where
   turn_next most seen (PositiveTurn t e kept) rest good = refl
   turn_next most seen (NegativeTurn t e) rest good = refl
 
+  -- turns are read as they are spelled, and spelled as they are read
   pub turns_law : (most : ℕ) → IsExact (turns s most) EndsTurns
   unfolding turns
   turns_law most =

@@ -72,5 +72,6 @@ module _ (p : Problem) (is : IsProblem p) where
 
 -- each outcome of a synthesis makes a certificate with its problem
 pub outcomes_are_writable : OutcomesCanBeWritten
-outcomes_are_writable v p o is h =
-    let both = written p is o h in record { problem = is; outcome = both.good; bounded = both.bounded }
+outcomes_are_writable v p o chains is h =
+    let both = written p is o h in
+    record { problem = is; outcome = both.good; bounded = both.bounded; proofs = chains }

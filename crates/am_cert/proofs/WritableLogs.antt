@@ -10,16 +10,12 @@ use Rattle.am_query.specs.Answers.{IsNumbered, IsRefuted, IsSpentOn}
 use Rattle.am_query.specs.Formulas.{circuit_of}
 use Rattle.am_query.specs.declared.query.Query.{Query}
 use Rattle.am_solve.specs.Answers.{ChainsAreShort}
-use Rattle.am_syntax.specs.Pieces.{number}
 use Rattle.am_syntax.specs.Readers.{Word}
 use Rattle.am_cert.specs.Certificate.{IsBounded}
-use Rattle.am_cert.specs.Grammar.{chain, code, log, step}
+use Rattle.am_cert.specs.Grammar.{chain, log, step}
+use Rattle.am_cert.proofs.Following.{good_code}
 use Rattle.am_cert.proofs.Items.{good_from_all}
 use Rattle.am_cert.proofs.Numbered.{IsChainBelow, IsStepBelow, log_numbers}
-
-good_code : (n : ℕ) → n < 2 ^ 32 → code.Good n
-unfolding number
-good_code n below = (omega arith, omega (arith, below))
 
 module _ (vars count : ℕ) (few_vars : vars ≤ 2 ^ 32) (few : count ≤ 2 ^ 32) where
   good_step : (t : Step) → IsStepBelow vars count t → step.Good t
@@ -48,7 +44,7 @@ pub record IsWritten (chains : List Chain) : Type 0 where
 -- a valid log of few chains, over the formula of a query
 written : (p : Problem) (q : Query) (chains : List Chain) (derived : List (List ℕ)) → IsNumbered p q →
     Derives (circuit_of true p q).clauses chains derived → ChainsAreShort (circuit_of true p q).vars chains →
-    length chains < 2 ^ 31 → IsWritten chains
+    length chains < 2 ^ 30 → IsWritten chains
 written p q chains derived numbered derives short few =
     let vars = (circuit_of true p q).vars in
     let all : length (circuit_of true p q).clauses + length chains ≤ 2 ^ 32 =
@@ -58,7 +54,7 @@ written p q chains derived numbered derives short few =
       good = λ name. good_log vars (2 ^ 32) (omega (arith, numbered.few_vars)) (omega arith) name chains are;
       bounded = record {
         chains = few;
-        steps = All-weaker (λ (c : Chain). length c.steps ≤ vars) (λ (c : Chain). length c.steps < 2 ^ 31)
+        steps = All-weaker (λ (c : Chain). length c.steps ≤ vars) (λ (c : Chain). length c.steps < 2 ^ 30)
             (λ c h. omega (arith, h, numbered.few_vars)) chains short;
       };
     }

@@ -174,6 +174,7 @@ module _ (p : Problem) (is : IsProblem p) where
       subst (places (negative_count trace)).Good (sym h.2)
       (good_kept trace so_far (h.0 ++ h.1 ∷ []) known few rises inside)
 
+  -- what is asked after a valid trace can be written
   pub good_asked : (trace : List Turn) (a : Asked) → length trace ≤ 2 ^ 32 → IsTrace p trace → IsAsked p trace a →
       (asked (shape_of (named p)) trace).Good a
   unfolding asked key_or

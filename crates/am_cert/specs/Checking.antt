@@ -1,12 +1,17 @@
 -- When a certificate is accepted, and what its acceptance says.
-use Rattle.std.specs.Prelude.{◌≡◌, ℕ, ◌≤◌, ◌<◌, List, length, Result, Ok, Err, ◌⊎◌}
-use Rattle.am_query.specs.Acceptance.{IsAccepted, IsFault}
+use Rattle.std.specs.Prelude.{◌≡◌, ℕ, ◌≤◌, ◌<◌, Bool, List, length, Result, Ok, Err, ◌⊎◌}
+use Rattle.am_query.specs.Acceptance.{Test, acceptance, hinted_acceptance}
 use Rattle.am_query.specs.AcceptanceLaws.{IsRight}
+use Rattle.am_problem.specs.Problem.{Problem}
 use Rattle.am_query.specs.declared.fault.Fault.{Fault}
+use Rattle.am_query.specs.declared.outcome.Outcome.{Outcome}
 use Rattle.am_syntax.specs.declared.refusal.Refusal.{Refusal}
 use Rattle.am_syntax.specs.declared.refusal.Refusal.TheVariants.{Long}
-use Rattle.am_cert.specs.Certificate.{Certificate, folds}
+use Rattle.am_cert.specs.Certificate.{Certificate}
 use Rattle.am_cert.specs.Texts.{Reads, certificate_of}
+use Rattle.am_cert.specs.Versions.{folds}
+use Rattle.am_cert.specs.declared.answer.Proofs.{Proofs}
+use Rattle.am_cert.specs.declared.answer.Proofs.TheVariants.{Chains, Hinted}
 use Rattle.am_cert.specs.declared.checking.CheckFail.{CheckFail}
 use Rattle.am_cert.specs.declared.checking.CheckFail.TheVariants.{NoMemory, Rejected}
 use Rattle.am_cert.specs.declared.feed.FeedEnd.{FeedEnd}
@@ -14,13 +19,22 @@ use Rattle.am_cert.specs.declared.feed.FeedEnd.TheVariants as feed
 use Rattle.am_cert.specs.declared.feed.FeedEnd.TheVariants.{Refused}
 use Rattle.am_cert.specs.declared.limits.TheConstants.{MOST_BYTES}
 
--- the outcome is accepted over the formulas of the certificate's version
-abbrev pub IsAcceptable : Certificate → Type 0
-IsAcceptable c = IsAccepted (folds c.version) c.problem c.outcome
+-- the test of an outcome over formulas of a form, by its logs or by hints
+abbrev pub acceptance_with : Bool → Problem → Outcome → Proofs → Test
+acceptance_with folding p o Chains = acceptance folding p o
+acceptance_with folding p o (Hinted first second) = hinted_acceptance folding p o first second
 
--- the first fault of the outcome over these formulas
+-- the test of a certificate, over the formulas of its version
+abbrev pub acceptance_of : Certificate → Test
+acceptance_of c = acceptance_with (folds c.version) c.problem c.outcome c.proofs
+
+-- the certificate is accepted
+abbrev pub IsAcceptable : Certificate → Type 0
+IsAcceptable c = (acceptance_of c).Passes
+
+-- the certificate's first fault
 abbrev pub HasFault : Certificate → Fault → Type 0
-HasFault c f = IsFault (folds c.version) c.problem c.outcome f
+HasFault c f = (acceptance_of c).Fails f
 
 -- a failure of a check is the certificate's first fault, or want of memory
 abbrev pub IsFailureOf : Certificate → CheckFail → Type 0

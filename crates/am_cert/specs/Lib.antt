@@ -1,8 +1,10 @@
+pub mod Versions
 pub mod Certificate
 pub mod Grammar
 pub mod Texts
 pub mod StoredDraft
 pub mod Printing
 pub mod Checking
+pub mod Translating
 pub mod inside
 pub mod lemmas

@@ -1,17 +1,19 @@
 -- A certificate's whole text: what it says, and the first refusal of each that says nothing.
-use Rattle.std.specs.Prelude.{◌≡◌, ℕ, List, [], ◌∷◌, ◌++◌, codes, Option, Some, None, Result, Ok, Err, ◌⊎◌}
-use Rattle.am_text.specs.Tokens.{bad_byte, text_left, words_of}
+use Rattle.std.specs.Prelude.{◌≡◌, ℕ, ◌+◌, ◌≤◌, ◌^◌, ◌||◌, bytes_eq, if◌then◌else◌, List, [], ◌∷◌, ◌++◌, codes, length}
+use Rattle.std.specs.Prelude.{sum_by, Option, Some, None, Result, Ok, Err, ◌⊎◌}
+use Rattle.am_text.specs.Tokens.{Left, bad_byte, text_left, words, words_of}
 use Rattle.am_problem.specs.Grammar.{problem}
 use Rattle.am_problem.specs.Problem.{Problem}
 use Rattle.am_problem.specs.Texts.{Draft as ProblemDraft, draft as problem_draft, named, settled as settled_problem}
-use Rattle.am_query.specs.declared.outcome.Outcome.{Outcome}
 use Rattle.am_syntax.specs.Pieces.{closed, keyed}
-use Rattle.am_syntax.specs.Readers.{◌>>=◌, Reader, Words, done}
+use Rattle.am_syntax.specs.Readers.{◌>>=◌, Reader, Word, Words, done}
 use Rattle.am_syntax.specs.Texts.{whole}
 use Rattle.am_syntax.specs.declared.refusal.Refusal.{Refusal}
 use Rattle.am_syntax.specs.declared.refusal.Refusal.TheVariants.{BadByte}
-use Rattle.am_cert.specs.Certificate.{Certificate, IsCertificate}
-use Rattle.am_cert.specs.Grammar.{outcome, shape_of, version, version_word}
+use Rattle.am_cert.specs.Certificate.{Certificate, IsCertificate, answer_of}
+use Rattle.am_cert.specs.Grammar.{answer, shape_of, version, version_word}
+use Rattle.am_cert.specs.Versions.{has_hints}
+use Rattle.am_cert.specs.declared.answer.Answer.{Answer}
 use Rattle.am_cert.specs.declared.version.Version.{Version}
 
 -- ---- what is read from left to right
@@ -20,27 +22,38 @@ use Rattle.am_cert.specs.declared.version.Version.{Version}
 pub record Draft : Type 0 where
   pub version : Version
   pub problem : ProblemDraft
-  pub outcome : Outcome
+  pub answer : Answer
 
 -- answer ANSWER end
-abbrev pub answered : ProblemDraft → Reader Outcome
-answered d = (closed (codes "end") (keyed (codes "answer") (outcome (shape_of d.lines)))).read
+abbrev pub answered : Version → ProblemDraft → Reader Answer
+answered v d = (closed (codes "end") (keyed (codes "answer") (answer (has_hints v) (shape_of d.lines)))).read
 
 -- certificate VERSION, a problem, and its answer
 unfoldable pub draft : Reader Draft
 draft =
     (keyed (codes "certificate") version).read >>= λ v.
     problem_draft >>= λ d.
-    answered d >>= λ o.
-    done (record { version = v; problem = d; outcome = o })
+    answered v d >>= λ a.
+    done (record { version = v; problem = d; answer = a })
 
-abbrev pub settled_with : Version → Outcome → Result Problem Refusal → Result Certificate Refusal
-settled_with v o (Ok p) = Ok (record { version = v; problem = p; outcome = o })
-settled_with v o (Err r) = Err r
+-- a version, an outcome and a problem are a certificate, unless the problem is refused
+abbrev pub settled_with : Version → Answer → Result Problem Refusal → Result Certificate Refusal
+settled_with v a (Ok p) = Ok (record { version = v; problem = p; outcome = a.outcome; proofs = a.proofs })
+settled_with v a (Err r) = Err r
 
 -- the certificate of a draft, or the refusal of its problem's names, slots or load
 abbrev pub settled : Draft → Result Certificate Refusal
-settled d = settled_with d.version d.outcome (settled_problem d.problem)
+settled d = settled_with d.version d.answer (settled_problem d.problem)
+
+-- ---- how much is left to read
+
+-- the bytes of a word, and one that parts it from a next word; a parenthesis needs none, and isn't counted
+abbrev pub word_bytes : Word → ℕ
+word_bytes word = if bytes_eq word (codes "(") || bytes_eq word (codes ")") then 0 else length word + 1
+
+-- what is left of a text of fewer than 2^32 bytes
+abbrev pub IsShort : Left → Type 0
+IsShort left = sum_by word_bytes (words left) ≤ 2 ^ 32
 
 -- ---- whole texts
 
@@ -49,7 +62,8 @@ abbrev pub certificate_words : Certificate → Words
 certificate_words c =
     codes "certificate" ∷ version_word c.version ∷
     (problem.spell (named c.problem) ++
-    (codes "answer" ∷ ((outcome (shape_of (named c.problem))).spell c.outcome ++ codes "end" ∷ [])))
+    (codes "answer" ∷
+    ((answer (has_hints c.version) (shape_of (named c.problem))).spell (answer_of c) ++ codes "end" ∷ [])))
 
 -- the text is this certificate's
 pub record Reads (text : List ℕ) (c : Certificate) : Type 0 where
@@ -57,6 +71,7 @@ pub record Reads (text : List ℕ) (c : Certificate) : Type 0 where
   pub spelled : words_of text ≡ certificate_words c
   pub limits : IsCertificate c
 
+-- the draft of a text, unless a byte is refused
 abbrev pub drafted : List ℕ → Option ℕ → Result Draft Refusal
 drafted text (Some place) = Err (BadByte place)
 drafted text None = whole (draft (text_left text))
@@ -65,6 +80,7 @@ drafted text None = whole (draft (text_left text))
 abbrev pub draft_of : List ℕ → Result Draft Refusal
 draft_of text = drafted text (bad_byte text)
 
+-- the certificate of a draft, unless there is a refusal
 abbrev pub all_settled : Result Draft Refusal → Result Certificate Refusal
 all_settled (Ok d) = settled d
 all_settled (Err r) = Err r

@@ -4,3 +4,4 @@ pub mod Drafts
 pub mod Printable
 pub mod Ends
 pub mod Verdicts
+pub mod Translations

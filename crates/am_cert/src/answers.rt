@@ -1,11 +1,13 @@
-//! Answers: how a synthesis ended.
+//! Answers with chains: how a synthesis ended.
 
 ghost use Rattle.std.proofs.Common.{inl, inr};
 ghost use Rattle.am_syntax.specs.Readers.{Makes};
-ghost use Rattle.am_cert.specs.Grammar.{asked, best, none, outcome, outcome_of, spent_conflicts, spent_turns};
+ghost use Rattle.std.specs.Prelude.{false};
+ghost use Rattle.am_cert.specs.Grammar.{answer, best, none, outcome, outcome_of, spent_conflicts, spent_turns};
 ghost use Rattle.am_cert.specs.inside.Shapes.{IsShape, seen_shape};
 ghost use Rattle.am_cert.specs.inside.Shown.{read_as, term_lines};
 
+use crate::answer::{Answer, Proofs};
 use crate::asking::read_asked;
 use crate::chains::read_log;
 use crate::rows::read_result_term;
@@ -48,7 +50,11 @@ impl<'a> Item<'a> for TermLines {
 }
 
 /// A line `term` for each field.
-fn read_term_lines(alloc: Global, text: &mut Cursor<'_>, s: &Shape) -> Result<Transformer, Failure>
+pub(crate) fn read_term_lines(
+    alloc: Global,
+    text: &mut Cursor<'_>,
+    s: &Shape,
+) -> Result<Transformer, Failure>
     requires { IsShape (seen_shape s.now) }
     ensures { Makes (λ ts. ts) result text.old text.new (term_lines (seen_shape s.now)).read }
 {
@@ -116,11 +122,7 @@ fn read_spent_conflicts(alloc: Global, text: &mut Cursor<'_>, s: &Shape) -> Resu
 
 /// How a synthesis ended.
 #[tactic(auto, unfolding(crate::specs::Grammar::outcome))]
-pub(crate) fn read_outcome(
-    alloc: Global,
-    text: &mut Cursor<'_>,
-    s: &Shape,
-) -> Result<Outcome, Failure>
+fn read_outcome(alloc: Global, text: &mut Cursor<'_>, s: &Shape) -> Result<Outcome, Failure>
     requires { IsShape (seen_shape s.now) }
     ensures { Makes (λ o. o) result text.old text.new (outcome (seen_shape s.now)).read }
 {
@@ -133,4 +135,21 @@ pub(crate) fn read_outcome(
     } else {
         read_spent_conflicts(alloc, text, s)
     }
+}
+
+/// How a synthesis ended, with the logs that show it.
+#[tactic(auto, unfolding(crate::specs::Grammar::answer))]
+pub(crate) fn read_chained(
+    alloc: Global,
+    text: &mut Cursor<'_>,
+    s: &Shape,
+) -> Result<Answer, Failure>
+    requires { IsShape (seen_shape s.now) }
+    ensures { Makes (λ a. a) result text.old text.new (answer false (seen_shape s.now)).read }
+{
+    let outcome = read_outcome(alloc, text, s)?;
+    Ok(Answer {
+        outcome,
+        proofs: Proofs::Chains,
+    })
 }

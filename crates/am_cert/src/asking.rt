@@ -16,7 +16,7 @@ use am_syntax::{Failure, is_next, take_key};
 use am_text::Cursor;
 use std::alloc::Global;
 
-/// `keep` and an example behind a trace.
+/// `keep` and an example after a trace.
 fn read_keep(
     alloc: Global,
     text: &mut Cursor<'_>,
@@ -62,7 +62,7 @@ fn read_precise(alloc: Global, text: &mut Cursor<'_>, s: &Shape) -> Result<Asked
     Ok(Asked::Precise { term })
 }
 
-/// What was asked behind a trace.
+/// What was asked after a trace.
 fn read_question(
     alloc: Global,
     text: &mut Cursor<'_>,
@@ -85,7 +85,7 @@ fn read_question(
     }
 }
 
-/// `query` and what was asked behind a trace.
+/// `query` and what was asked after a trace.
 #[tactic(auto, unfolding(crate::specs::Grammar::asked))]
 pub(crate) fn read_asked(
     alloc: Global,

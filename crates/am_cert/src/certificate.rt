@@ -1,21 +1,26 @@
 //! Certificates.
 
-ghost use Rattle.std.specs.Prelude.{◌≡◌};
+ghost use Rattle.std.specs.Prelude.{◌≡◌, false};
 ghost use Rattle.am_cert.specs.Certificate.{IsCertificate};
 ghost use Rattle.am_cert.specs.Printing.{IsWritable};
+ghost use Rattle.am_cert.specs.Versions.{has_hints};
+ghost use Rattle.am_cert.specs.declared.answer.Proofs.TheVariants.{Chains};
 
+use crate::answer::Proofs;
 use crate::version::Version;
 use am_problem::Problem;
 use am_query::Outcome;
 use std::marker::Model;
 
-/// A problem, how its synthesis ended, and the form of its formulas. Contracts see the parts; each certificate can be
-/// written, has fewer than 2^31 chains in each log, and fewer than 2^31 steps in each chain.
+/// A problem, how its synthesis ended, what shows it, and the form of its formulas. Contracts see the parts. Each
+/// certificate can be written; versions 1 and 2 have chains, and versions 3 and 4 hints in their place. A log or a list
+/// of hints has fewer than 2^30 items; a chain has fewer than 2^30 steps, and a hint fewer than 2^31 codes and places.
 #[derive(Drop)]
 pub struct Certificate {
     pub(crate) version: Version,
     pub(crate) problem: Problem,
     pub(crate) outcome: Outcome,
+    pub(crate) proofs: Proofs,
 }
 
 impl Model for Certificate {
@@ -28,27 +33,39 @@ impl Model for Certificate {
 
     ghost coded = { Prim.hlevel (codes, term.the_row.coded, production.the_row.coded) };
 
-    ghost view = { λ c. record { version = c.version; problem = c.problem; outcome = c.outcome } };
+    ghost view = { λ c. record {
+      version = c.version;
+      problem = c.problem;
+      outcome = c.outcome;
+      proofs = c.proofs;
+    } };
 
-    ghost invariant = { λ c. IsCertificate (record { version = c.version; problem = c.problem; outcome = c.outcome }) };
+    ghost invariant = { λ c. IsCertificate (record {
+      version = c.version;
+      problem = c.problem;
+      outcome = c.outcome;
+      proofs = c.proofs;
+    }) };
 }
 
 impl Certificate {
-    /// The certificate of a problem with an outcome of its synthesis. The logs of such an outcome are over formulas
-    /// that fold constants, so a certificate of version 1 with them need not be accepted.
+    /// The certificate of a problem with an outcome of its synthesis, in a version with chains. The logs of such an
+    /// outcome are over formulas that fold constants, so a certificate of version 1 with them need not be accepted.
     pub fn new(version: Version, problem: Problem, outcome: Outcome) -> Certificate
-        requires { IsWritable problem outcome }
-        ensures { result ≡ record { version = version; problem = problem; outcome = outcome } }
+        requires chains { has_hints version ≡ false }
+        requires writable { IsWritable problem outcome }
+        ensures { result ≡ record { version = version; problem = problem; outcome = outcome; proofs = Chains } }
     {
         problem.keeps_limits();
         Certificate {
             version,
             problem,
             outcome,
+            proofs: Proofs::Chains,
         }
     }
 
-    /// Each certificate can be written, and keeps the bounds of its logs.
+    /// Each certificate can be written, and keeps the bounds of its logs and hints.
     pub fn keeps_limits(&self)
         ensures { IsCertificate self.now }
     {
@@ -74,5 +91,12 @@ impl Certificate {
         ensures { result.now ≡ self.now.outcome }
     {
         &self.outcome
+    }
+
+    /// What refutes the formulas of its queries.
+    pub fn proofs(&self) -> &Proofs
+        ensures { result.now ≡ self.now.proofs }
+    {
+        &self.proofs
     }
 }

@@ -11,8 +11,8 @@ use am_syntax::{Cause, Failure, is_next, take_key, take_number};
 use am_text::Cursor;
 use std::alloc::Global;
 
-/// The number of a variable or of a clause.
-fn take_code(text: &mut Cursor<'_>) -> Result<u32, Cause>
+/// The number of a variable or of a clause, or the code of a literal.
+pub(crate) fn take_code(text: &mut Cursor<'_>) -> Result<u32, Cause>
     ensures { Gives (λ n. n) result text.old text.new code.read }
 {
     Ok(take_number(text, 0, u64::from(u32::MAX))? as u32)

@@ -1,12 +1,11 @@
 //! Whether a certificate is accepted.
 
-ghost use Rattle.std.specs.Prelude.{IfErr, OnOk};
-ghost use Rattle.am_query.specs.Acceptance.{acceptance};
+ghost use Rattle.std.specs.Prelude.{IfErr, OnOk, []};
 ghost use Rattle.am_query.specs.AcceptanceLaws.{IsRight};
 ghost use Rattle.am_query.specs.declared.outcome.Outcome.TheVariants.{Absent, Best};
-ghost use Rattle.am_cert.specs.Certificate.{IsBounded, folds};
-ghost use Rattle.am_cert.specs.Checking.{IsAcceptable, IsFailureOf};
-ghost use Rattle.am_cert.specs.inside.Verdicts.{AreCounted, AreStoredAfter, IsVerdictOf};
+ghost use Rattle.am_cert.specs.Certificate.{IsBounded};
+ghost use Rattle.am_cert.specs.Checking.{IsAcceptable, IsFailureOf, acceptance_of};
+ghost use Rattle.am_cert.specs.inside.Verdicts.{AreCounted, AreStoredAfter, IsVerdictOf, acceptance_but};
 
 use crate::certificate::Certificate;
 use crate::conditions::{negatives_true, positives_true, terms_inside};
@@ -40,8 +39,8 @@ impl From<AllocError> for CheckFail {
 }
 
 /// Accepts a certificate by its contents alone. No solver is asked, and nothing is trusted of where it came from: the
-/// terms are looked up in the grammar, the examples are tested, and the chains are replayed over the formulas, which
-/// are made anew. An accepted certificate's term is best, or its problem has no sound transformer.
+/// terms are looked up in the grammar, the examples are tested, and the chains are replayed, or the hints tested, over
+/// the formulas, which are made anew. An accepted certificate's term is best, or its problem has no sound transformer.
 ///
 /// # Errors
 ///
@@ -57,7 +56,7 @@ pub fn check(alloc: Global, c: &Certificate) -> Result<(), CheckFail>
 
 /// The verdict of acceptance.
 fn verdict(alloc: Global, c: &Certificate) -> Result<(), CheckFail>
-    ensures { IsVerdictOf (acceptance (folds c.now.version) c.now.problem c.now.outcome) result }
+    ensures { IsVerdictOf (acceptance_of c.now) result }
 {
     c.keeps_limits();
     match c.outcome() {
@@ -75,7 +74,7 @@ fn verdict(alloc: Global, c: &Certificate) -> Result<(), CheckFail>
 }
 
 /// Whether the terms are best: they stand in the language, the positive examples are true, the terms exclude the
-/// negative ones, and the logs refute that the terms aren't sound, and that there are closer ones.
+/// negative ones, and the logs or the hints refute that the terms aren't sound, and that there are closer ones.
 fn best(
     alloc: Global,
     c: &Certificate,
@@ -88,8 +87,8 @@ fn best(
     requires stored { AreStoredAfter c.now.problem trace.now }
     requires sound_log { IsBounded sound_log.now }
     requires best_log { IsBounded best_log.now }
-    ensures { IsVerdictOf (acceptance (folds c.now.version) c.now.problem
-        (Best terms.now trace.now sound_log.now best_log.now)) result }
+    ensures { IsVerdictOf (acceptance_but c.now (Best terms.now trace.now sound_log.now best_log.now) sound_log.now
+        best_log.now) result }
 {
     let p = c.problem();
     p.keeps_limits();
@@ -101,12 +100,12 @@ fn best(
     closer_refuted(alloc, c, terms, state, best_log)
 }
 
-/// Whether there is no sound transformer: the positive examples are true, and the log refutes that a transformer
-/// covers them.
+/// Whether there is no sound transformer: the positive examples are true, and the log or the hints refute that a
+/// transformer covers them.
 fn absent(alloc: Global, c: &Certificate, trace: &Trace, log: &Log) -> Result<(), CheckFail>
     requires stored { AreStoredAfter c.now.problem trace.now }
     requires log { IsBounded log.now }
-    ensures { IsVerdictOf (acceptance (folds c.now.version) c.now.problem (Absent trace.now log.now)) result }
+    ensures { IsVerdictOf (acceptance_but c.now (Absent trace.now log.now) log.now []) result }
 {
     let p = c.problem();
     p.keeps_limits();

@@ -32,6 +32,10 @@ impl<'a> Judge<'a> for VersionWord {
             Ok(Version::One)
         } else if word == b"2".as_slice() {
             Ok(Version::Two)
+        } else if word == b"3".as_slice() {
+            Ok(Version::Three)
+        } else if word == b"4".as_slice() {
+            Ok(Version::Four)
         } else if is_digits(word) {
             Err(Cause::Number)
         } else {

@@ -2,10 +2,12 @@
 //!
 //! A [`Certificate`] has a problem and an [`am_query::Outcome`] of its synthesis: a transformer with two logs
 //! that refute that it isn't sound and that there is a closer one; or that there is none, with one log; or the
-//! turns and the derived clauses where a budget was spent. [`read_certificate`] reads one from a text,
-//! [`print_certificate`] writes it, and [`check`] accepts it by its contents alone. [`certificate_at`] reads one
-//! that stands in a longer text: a [`CertificateDraft`] settles to it when the whole text was read. A [`Feed`]
-//! takes the text in pieces.
+//! turns and the derived clauses where a budget was spent. In versions 3 and 4 its [`Proofs`] are hints, in place of
+//! the logs of a best transformer or of none, and [`Certificate::translated`] makes such a one.
+//!
+//! [`read_certificate`] reads a certificate from a text, [`print_certificate`] writes it, and [`check`] accepts it by
+//! its contents alone. [`certificate_at`] reads one that stands in a longer text: a [`CertificateDraft`] settles to it
+//! when the whole text was read. A [`Feed`] takes the text in pieces.
 //!
 //! ```text
 //! let c = read_certificate(alloc, text)?; // or the first refusal, with its place
@@ -19,11 +21,13 @@
 //! bytes has exactly one of the two. [`print_certificate`] appends exactly the canonical text, `specs/Printing.antt`,
 //! and what was printed reads back. [`check`] is Ok exactly where the outcome is accepted, by the conditions of
 //! `am_query/specs/Acceptance.antt` over the formulas of the certificate's version, and then **the term is best, or no
-//! transformer of the problem is sound**; else it answers the first fault. [`Feed::end`] answers for every cutting of
+//! transformer of the problem is sound**; else it answers the first fault. [`Certificate::translated`] of an accepted
+//! certificate is accepted, and has the same problem, terms and turns. [`Feed::end`] answers for every cutting of
 //! a text into pieces what reading and checking the whole answers. A text of an accepted certificate gets no verdict
 //! but that it is accepted.
 #![tactic(auto)]
 
+mod answer;
 mod answers;
 mod asking;
 mod certificate;
@@ -33,6 +37,9 @@ mod conditions;
 mod draft;
 mod feed;
 mod heading;
+mod hinted_answers;
+mod hinted_printing;
+mod hints;
 mod limits;
 mod printing;
 mod reading;
@@ -40,9 +47,11 @@ mod refutation;
 mod rows;
 mod settling;
 mod shape;
+mod translating;
 mod turns;
 mod version;
 
+pub use answer::Proofs;
 pub use certificate::Certificate;
 pub use checking::{CheckFail, check};
 pub use draft::CertificateDraft;

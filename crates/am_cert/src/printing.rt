@@ -5,12 +5,14 @@ ghost use Rattle.am_syntax.specs.Canonical.{Appends, line, lines, spaced};
 ghost use Rattle.am_syntax.specs.Lines.{is_apart};
 ghost use Rattle.am_syntax.specs.Spelling.{FitsSomewhere};
 ghost use Rattle.am_cert.specs.Grammar.{version_word};
-ghost use Rattle.am_cert.specs.Printing.{CanonicalCertificatesAreRead, OutcomesCanBeWritten, answer_row, asked_words};
-ghost use Rattle.am_cert.specs.Printing.{certificate_text, chain_row, log_rows, outcome_rows, step_words, term_row};
-ghost use Rattle.am_cert.specs.Printing.{turn_row};
+ghost use Rattle.am_cert.specs.Printing.{CanonicalCertificatesAreRead, OutcomesCanBeWritten, answer_row, answer_rows};
+ghost use Rattle.am_cert.specs.Printing.{asked_words, certificate_text, chain_row, log_rows, outcome_rows, step_words};
+ghost use Rattle.am_cert.specs.Printing.{term_row, turn_row};
 ghost use Rattle.am_cert.specs.inside.Printable.{IsPrintable, IsPrintableAsked, IsPrintableTurn};
 
+use crate::answer::Proofs;
 use crate::certificate::Certificate;
+use crate::hinted_printing::print_hinted;
 use crate::version::Version;
 use am_bv::Term;
 use am_chain::{Chain, Log, Step};
@@ -32,7 +34,7 @@ pub fn print_certificate(out: &mut Writer, c: &Certificate) -> Result<(), AllocE
     c.keeps_limits();
     print_version(out, c.version())?;
     print_problem(out, c.problem())?;
-    print_outcome(out, c.outcome())?;
+    print_proved(out, c.outcome(), c.proofs())?;
     print_line(out, b"end", &[])
 }
 
@@ -43,10 +45,23 @@ fn print_version(out: &mut Writer, version: Version) -> Result<(), AllocError>
     match version {
         Version::One => print_line(out, b"certificate", &[Entry::Word(b"1")]),
         Version::Two => print_line(out, b"certificate", &[Entry::Word(b"2")]),
+        Version::Three => print_line(out, b"certificate", &[Entry::Word(b"3")]),
+        Version::Four => print_line(out, b"certificate", &[Entry::Word(b"4")]),
     }
 }
 
-/// Appends the lines of an answer.
+/// Appends the lines of an answer, with chains or with hints.
+fn print_proved(out: &mut Writer, outcome: &Outcome, proofs: &Proofs) -> Result<(), AllocError>
+    requires { IsPrintable outcome.now }
+    ensures { Appends result out.old out.new (lines (answer_rows outcome.now proofs.now)) }
+{
+    match proofs {
+        Proofs::Chains => print_outcome(out, outcome),
+        Proofs::Hinted { first, second } => print_hinted(out, outcome, first, second),
+    }
+}
+
+/// Appends the lines of an answer with chains.
 #[tactic(auto, using(crate::proofs::PrintedTexts::outcome_texts, am_syntax::proofs::Laws::appending))]
 fn print_outcome(out: &mut Writer, outcome: &Outcome) -> Result<(), AllocError>
     requires { IsPrintable outcome.now }
@@ -84,7 +99,7 @@ fn print_outcome(out: &mut Writer, outcome: &Outcome) -> Result<(), AllocError>
 }
 
 /// Appends the line that names an answer.
-fn print_answer(out: &mut Writer, name: &[u8]) -> Result<(), AllocError>
+pub(crate) fn print_answer(out: &mut Writer, name: &[u8]) -> Result<(), AllocError>
     requires { IsTrue (is_apart name.now) }
     ensures { Appends result out.old out.new (line (answer_row name.now)) }
 {
@@ -92,7 +107,7 @@ fn print_answer(out: &mut Writer, name: &[u8]) -> Result<(), AllocError>
 }
 
 /// Appends a line for each term.
-fn print_terms(out: &mut Writer, terms: &[Term]) -> Result<(), AllocError>
+pub(crate) fn print_terms(out: &mut Writer, terms: &[Term]) -> Result<(), AllocError>
     requires { All FitsSomewhere terms.now }
     ensures { Appends result out.old out.new (lines (map term_row terms.now)) }
 {
@@ -111,7 +126,7 @@ fn print_term_line(out: &mut Writer, term: &Term) -> Result<(), AllocError>
 }
 
 /// Appends a line for each turn.
-fn print_turns(out: &mut Writer, turns: &[Turn]) -> Result<(), AllocError>
+pub(crate) fn print_turns(out: &mut Writer, turns: &[Turn]) -> Result<(), AllocError>
     requires { All IsPrintableTurn turns.now }
     ensures { Appends result out.old out.new (lines (map turn_row turns.now)) }
 {
@@ -233,7 +248,7 @@ fn print_chain(out: &mut Writer, chain: &Chain) -> Result<(), AllocError>
     out.newline()
 }
 
-/// Appends each step behind a space.
+/// Appends each step after a space.
 fn print_steps(out: &mut Writer, steps: &[Step]) -> Result<(), AllocError>
     ensures { Appends result out.old out.new (flat_map (λ step. 32 ∷ spaced (step_words step)) steps.now) }
 {
@@ -243,7 +258,7 @@ fn print_steps(out: &mut Writer, steps: &[Step]) -> Result<(), AllocError>
     Ok(())
 }
 
-/// Appends a step behind a space.
+/// Appends a step after a space.
 #[tactic(auto, using(crate::proofs::PrintedTexts::step_text, am_syntax::proofs::Laws::appending))]
 fn print_step(out: &mut Writer, step: &Step) -> Result<(), AllocError>
     ensures { Appends result out.old out.new (32 ∷ spaced (step_words step.now)) }
@@ -252,7 +267,7 @@ fn print_step(out: &mut Writer, step: &Step) -> Result<(), AllocError>
     print_number(out, step.clause)
 }
 
-/// Appends a number behind a space.
+/// Appends a number after a space.
 fn print_number(out: &mut Writer, n: u32) -> Result<(), AllocError>
     ensures { Appends result out.old out.new (32 ∷ decimal n) }
 {

@@ -11,28 +11,30 @@ ghost use Rattle.am_cert.specs.Certificate.{Certificate as Data};
 ghost use Rattle.am_cert.specs.Grammar.{shape_of};
 ghost use Rattle.am_cert.specs.StoredDraft.{seen_draft};
 ghost use Rattle.am_cert.specs.inside.Shapes.{IsShape};
-ghost use Rattle.am_cert.specs.Texts.{IsSettledCertificate, Reads, answered, certificate_of, draft, draft_of};
+ghost use Rattle.am_cert.specs.Texts.{IsSettledCertificate, IsShort, Reads, answered, certificate_of, draft, draft_of};
 
-use crate::answers::read_outcome;
+use crate::answer::Answer;
 use crate::certificate::Certificate;
 use crate::draft::CertificateDraft;
 use crate::heading::read_version;
+use crate::hinted_answers::read_by;
 use crate::shape::Shape;
+use crate::version::Version;
 use am_domain::Domain;
 use am_problem::{Draft, take_problem};
-use am_query::Outcome;
 use am_syntax::{Failure, ReadError, close, follow, open, placed, take_key};
 use am_text::Cursor;
 use std::alloc::Global;
 
-/// `answer`, how the synthesis of the problem ended, and `end`.
+/// `answer`, how the synthesis of the problem ended, as the version has it, and `end`.
 fn read_answer(
     alloc: Global,
     text: &mut Cursor<'_>,
+    version: Version,
     problem: &Draft<'_>,
-) -> Result<Outcome, Failure>
+) -> Result<Answer, Failure>
     requires { IsShape (shape_of (seen_problem problem.now).lines) }
-    ensures { Makes (λ o. o) result text.old text.new (answered (seen_problem problem.now)) }
+    ensures { Makes (λ a. a) result text.old text.new (answered version (seen_problem problem.now)) }
 {
     let shape = Shape {
         width: problem.width(),
@@ -41,24 +43,24 @@ fn read_answer(
         turns: problem.turns(),
     };
     take_key(text, b"answer")?;
-    let outcome = read_outcome(alloc, text, &shape)?;
+    let answer = read_by(alloc, text, &shape, version.has_hints())?;
     take_key(text, b"end")?;
-    Ok(outcome)
+    Ok(answer)
 }
 
 /// A certificate up to its `end`.
 #[tactic(auto, unfolding(crate::specs::Texts::draft))]
 fn read_draft<'a>(alloc: Global, text: &mut Cursor<'a>) -> Result<CertificateDraft<'a>, Failure>
-    requires { length text.old.tokens < 2 ^ 32 }
+    requires { IsShort text.old }
     ensures { Makes seen_draft result text.old text.new draft }
 {
     let version = read_version(text)?;
     let problem = take_problem(alloc, text)?;
-    let outcome = read_answer(alloc, text, &problem)?;
+    let answer = read_answer(alloc, text, version, &problem)?;
     Ok(CertificateDraft {
         version,
         problem,
-        outcome,
+        answer,
     })
 }
 
@@ -67,7 +69,7 @@ fn take_certificate<'a>(
     alloc: Global,
     text: &mut Cursor<'a>,
 ) -> Result<CertificateDraft<'a>, Failure>
-    requires { length text.old.tokens < 2 ^ 32 }
+    requires { IsShort text.old }
     ensures read { Makes seen_draft result text.old text.new draft }
     ensures stays { result ≡ Err NoMemory → text.new ≡ text.old }
 {
@@ -76,7 +78,7 @@ fn take_certificate<'a>(
     follow(text, ahead, read)
 }
 
-/// Reads a certificate up to its `end`, in the middle of a text of fewer than 2^32 tokens.
+/// Reads a certificate up to its `end`, in the middle of a text of fewer than 2^32 bytes.
 ///
 /// # Errors
 ///
@@ -85,7 +87,7 @@ pub fn certificate_at<'a>(
     alloc: Global,
     c: &mut Cursor<'a>,
 ) -> Result<CertificateDraft<'a>, ReadError>
-    requires { length c.old.tokens < 2 ^ 32 }
+    requires { IsShort c.old }
     ensures { MakesAt seen_draft result c.old c.new draft }
 {
     let read = take_certificate(alloc, c);

@@ -1,24 +1,27 @@
-//! The conditions on logs: each refutes the formula of its query.
+//! The conditions on logs and hints: each refutes the formula of its query.
 
 ghost use Rattle.std.specs.Prelude.{◌≡◌, ◌<◌, ◌^◌, [], IfOk, length};
-ghost use Rattle.am_query.specs.Acceptance.{refuted};
+ghost use Rattle.am_query.specs.Acceptance.{hints_refute, refuted};
 ghost use Rattle.am_query.specs.Formulas.{circuit_of};
 ghost use Rattle.am_query.specs.Queries.{AreCompared, AreFitted, IsQueryOf};
 ghost use Rattle.am_query.specs.Transformers.{IsTransformerOf};
 ghost use Rattle.am_query.specs.declared.query.Query.TheVariants.{Fit, Precise, Sound};
-ghost use Rattle.am_cert.specs.Certificate.{IsBounded, folds};
-ghost use Rattle.am_cert.specs.inside.Verdicts.{IsVerdictOf};
+ghost use Rattle.am_cert.specs.Certificate.{AreHints, IsBounded};
+ghost use Rattle.am_cert.specs.Versions.{folds};
+ghost use Rattle.am_cert.specs.inside.Verdicts.{IsFormulaOf, IsVerdictOf, first_refuted, second_refuted};
 
+use crate::answer::Proofs;
 use crate::certificate::Certificate;
 use crate::checking::CheckFail;
 use crate::version::Version;
 use am_chain::{AddError, Checker, Log};
+use am_hint::{HintChecker, HintError, Hints};
 use am_lit::Formula;
-use am_problem::{Negatives, Positives, Problem, Transformer};
+use am_problem::{Negatives, Positives, Transformer};
 use am_query::{Fault, Query, State, formula_of, formula_one_of};
 use std::alloc::{AllocError, Global};
 
-/// Whether the log refutes that the terms aren't sound: refutation number 0 of a best transformer.
+/// Whether it is refuted that the terms aren't sound: refutation number 0 of a best transformer.
 pub fn unsound_refuted(
     alloc: Global,
     c: &Certificate,
@@ -27,14 +30,14 @@ pub fn unsound_refuted(
 ) -> Result<(), CheckFail>
     requires transformer { IsTransformerOf c.now.problem terms.now }
     requires bounded { IsBounded log.now }
-    ensures { IsVerdictOf (refuted 0 (circuit_of (folds c.now.version) c.now.problem (Sound terms.now)).clauses log.now)
-        result }
+    ensures { let net = circuit_of (folds c.now.version) c.now.problem (Sound terms.now) in
+        IsVerdictOf (first_refuted c.now.proofs log.now net.vars net.clauses) result }
 {
-    let term = copied(alloc, terms)?;
-    refuted(alloc, c, 0, &Query::Sound { term }, log)
+    let formula = unsound_formula(alloc, c, terms)?;
+    first_refuted(alloc, c, &formula, log)
 }
 
-/// Whether the log refutes that there are closer terms that satisfy the examples: refutation number 1 of a best
+/// Whether it is refuted that there are closer terms that satisfy the examples: refutation number 1 of a best
 /// transformer.
 pub fn closer_refuted(
     alloc: Global,
@@ -45,18 +48,15 @@ pub fn closer_refuted(
 ) -> Result<(), CheckFail>
     requires compared { AreCompared c.now.problem terms.now examples.positives examples.negatives }
     requires bounded { IsBounded log.now }
-    ensures { IsVerdictOf (refuted 1 (circuit_of (folds c.now.version) c.now.problem
-        (Precise terms.now examples.positives examples.negatives)).clauses log.now) result }
+    ensures { let net = circuit_of (folds c.now.version) c.now.problem
+        (Precise terms.now examples.positives examples.negatives) in
+        IsVerdictOf (second_refuted c.now.proofs log.now net.vars net.clauses) result }
 {
-    let State {
-        positives: pos,
-        negatives: neg,
-    } = examples;
-    let term = copied(alloc, terms)?;
-    refuted(alloc, c, 1, &Query::Precise { term, pos, neg }, log)
+    let formula = closer_formula(alloc, c, terms, examples)?;
+    second_refuted(alloc, c, &formula, log)
 }
 
-/// Whether the log refutes that some transformer covers the positive examples: refutation number 0 where none is sound.
+/// Whether it is refuted that some transformer covers the positive examples: refutation number 0 where none is sound.
 pub fn fit_refuted(
     alloc: Global,
     c: &Certificate,
@@ -65,32 +65,97 @@ pub fn fit_refuted(
 ) -> Result<(), CheckFail>
     requires fitted { AreFitted c.now.problem pos [] }
     requires bounded { IsBounded log.now }
-    ensures { IsVerdictOf (refuted 0 (circuit_of (folds c.now.version) c.now.problem (Fit pos [])).clauses log.now)
-        result }
+    ensures { let net = circuit_of (folds c.now.version) c.now.problem (Fit pos []) in
+        IsVerdictOf (first_refuted c.now.proofs log.now net.vars net.clauses) result }
+{
+    let formula = fit_formula(alloc, c, pos)?;
+    first_refuted(alloc, c, &formula, log)
+}
+
+/// The formula that the terms aren't sound.
+pub fn unsound_formula(
+    alloc: Global,
+    c: &Certificate,
+    terms: &Transformer,
+) -> Result<Formula, AllocError>
+    requires { IsTransformerOf c.now.problem terms.now }
+    ensures { IfOk result (IsFormulaOf c.now (Sound terms.now)) }
+{
+    let term = copied(alloc, terms)?;
+    formula(alloc, c, &Query::Sound { term })
+}
+
+/// The formula that there are closer terms that satisfy the examples.
+pub fn closer_formula(
+    alloc: Global,
+    c: &Certificate,
+    terms: &Transformer,
+    examples: State,
+) -> Result<Formula, AllocError>
+    requires { AreCompared c.now.problem terms.now examples.positives examples.negatives }
+    ensures { IfOk result (IsFormulaOf c.now (Precise terms.now examples.positives examples.negatives)) }
+{
+    let State {
+        positives: pos,
+        negatives: neg,
+    } = examples;
+    let term = copied(alloc, terms)?;
+    formula(alloc, c, &Query::Precise { term, pos, neg })
+}
+
+/// The formula that some transformer covers the positive examples.
+pub fn fit_formula(alloc: Global, c: &Certificate, pos: Positives) -> Result<Formula, AllocError>
+    requires { AreFitted c.now.problem pos [] }
+    ensures { IfOk result (IsFormulaOf c.now (Fit pos [])) }
 {
     let neg = Negatives::new(alloc);
-    refuted(alloc, c, 0, &Query::Fit { pos, neg }, log)
+    formula(alloc, c, &Query::Fit { pos, neg })
 }
 
-/// Whether the log of refutation number `j` refutes the formula of a query.
-fn refuted(alloc: Global, c: &Certificate, j: u32, q: &Query, log: &Log) -> Result<(), CheckFail>
-    requires query { IsQueryOf c.now.problem q.now }
+/// The formula of a query, in the form that the certificate's version says.
+fn formula(alloc: Global, c: &Certificate, q: &Query) -> Result<Formula, AllocError>
+    requires { IsQueryOf c.now.problem q.now }
+    ensures { IfOk result (IsFormulaOf c.now q.now) }
+{
+    match c.version() {
+        Version::One | Version::Three => formula_one_of(alloc, c.problem(), q),
+        Version::Two | Version::Four => formula_of(alloc, c.problem(), q),
+    }
+}
+
+/// Whether the log, or the first hints in its place, refutes the formula: refutation number 0.
+fn first_refuted(
+    alloc: Global,
+    c: &Certificate,
+    formula: &Formula,
+    log: &Log,
+) -> Result<(), CheckFail>
+    requires few { length formula.now.clauses < 2 ^ 31 }
     requires bounded { IsBounded log.now }
-    ensures { IsVerdictOf (refuted j (circuit_of (folds c.now.version) c.now.problem q.now).clauses log.now) result }
+    ensures { IsVerdictOf (first_refuted c.now.proofs log.now formula.now.vars formula.now.clauses) result }
 {
-    let formula = formula(alloc, c.version(), c.problem(), q)?;
-    replayed(alloc, j, &formula, log)
+    c.keeps_limits();
+    match c.proofs() {
+        Proofs::Chains => replayed(alloc, 0, formula, log),
+        Proofs::Hinted { first, .. } => tested(alloc, 0, formula, first),
+    }
 }
 
-/// The formula of a query in this form.
-fn formula(alloc: Global, version: Version, p: &Problem, q: &Query) -> Result<Formula, AllocError>
-    requires { IsQueryOf p.now q.now }
-    ensures clauses { IfOk result (λ f. f.clauses ≡ (circuit_of (folds version) p.now q.now).clauses) }
-    ensures few { IfOk result (λ f. length f.clauses < 2 ^ 31) }
+/// Whether the log, or the second hints in its place, refutes the formula: refutation number 1.
+fn second_refuted(
+    alloc: Global,
+    c: &Certificate,
+    formula: &Formula,
+    log: &Log,
+) -> Result<(), CheckFail>
+    requires few { length formula.now.clauses < 2 ^ 31 }
+    requires bounded { IsBounded log.now }
+    ensures { IsVerdictOf (second_refuted c.now.proofs log.now formula.now.vars formula.now.clauses) result }
 {
-    match version {
-        Version::One => formula_one_of(alloc, p, q),
-        Version::Two => formula_of(alloc, p, q),
+    c.keeps_limits();
+    match c.proofs() {
+        Proofs::Chains => replayed(alloc, 1, formula, log),
+        Proofs::Hinted { second, .. } => tested(alloc, 1, formula, second),
     }
 }
 
@@ -113,6 +178,34 @@ fn replayed(alloc: Global, j: u32, formula: &Formula, log: &Log) -> Result<(), C
                 }));
             }
             Err(AddError::NoMemory) => return Err(CheckFail::NoMemory),
+        }
+    }
+    if checker.refuted() {
+        Ok(())
+    } else {
+        Err(CheckFail::Rejected(Fault::NotEmpty(j)))
+    }
+}
+
+/// Tests the hints over the formula, one after another.
+fn tested(alloc: Global, j: u32, formula: &Formula, hints: &Hints) -> Result<(), CheckFail>
+    requires few { length formula.now.clauses < 2 ^ 31 }
+    requires bounded { AreHints hints.now }
+    ensures { IsVerdictOf (hints_refute j formula.now.vars formula.now.clauses hints.now) result }
+{
+    let mut checker = HintChecker::new(alloc, formula)?;
+    for k in 0..hints.len() {
+        match checker.add(hints.get(k)) {
+            Ok(()) => {}
+            Err(HintError::Fault(fault)) => {
+                return Err(CheckFail::Rejected(Fault::BadHint {
+                    refutation: j,
+                    clause: k as u32,
+                    hint: fault.place,
+                    why: fault.why,
+                }));
+            }
+            Err(HintError::NoMemory) => return Err(CheckFail::NoMemory),
         }
     }
     if checker.refuted() {

@@ -108,7 +108,7 @@ pub(crate) fn is_number_next(text: &Cursor<'_>) -> bool
     }
 }
 
-/// The least place behind others.
+/// The least place after others.
 fn place_behind(seen: &[u32]) -> u64
     ensures { result ≡ place_behind seen.now }
 {

@@ -4,6 +4,7 @@ ghost use Rattle.am_syntax.specs.Texts.{Answers};
 ghost use Rattle.am_cert.specs.StoredDraft.{seen_draft};
 ghost use Rattle.am_cert.specs.Texts.{settled};
 
+use crate::answer::Answer;
 use crate::certificate::Certificate;
 use crate::draft::CertificateDraft;
 use am_syntax::ReadError;
@@ -22,7 +23,7 @@ impl<'a> CertificateDraft<'a> {
         let CertificateDraft {
             version,
             problem,
-            outcome,
+            answer: Answer { outcome, proofs },
         } = self;
         let problem = problem.settle(alloc)?;
         problem.keeps_limits();
@@ -30,6 +31,7 @@ impl<'a> CertificateDraft<'a> {
             version,
             problem,
             outcome,
+            proofs,
         })
     }
 }

@@ -1,8 +1,8 @@
-//! What a problem says of the rows behind it.
+//! What a problem says of the rows after it.
 
 use am_bv::Width;
 
-/// What a problem says of the rows behind it.
+/// What a problem says of the rows after it.
 #[derive(Clone, Copy)]
 pub(crate) struct Shape {
     pub(crate) width: Width,

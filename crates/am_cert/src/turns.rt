@@ -90,7 +90,7 @@ fn read_negative(alloc: Global, text: &mut Cursor<'_>, s: &Shape) -> Result<Turn
     })
 }
 
-/// A turn behind others with so many negative examples.
+/// A turn after others with so many negative examples.
 fn read_either(alloc: Global, text: &mut Cursor<'_>, s: &Shape, count: u64) -> Result<Turn, Failure>
     requires { IsShape (seen_shape s.now) }
     ensures { Makes (λ t. t) result text.old text.new (read_as turn_of (either_turn (seen_shape s.now) count)) }
@@ -110,7 +110,7 @@ fn length(places: &[u32]) -> u64
     places.len() as u64
 }
 
-/// How many negative examples there are behind the turns.
+/// How many negative examples there are after the turns.
 pub(crate) fn negative_count(seen: &[Turn]) -> u64
     ensures { result ≡ negative_count seen.now }
 {
@@ -135,7 +135,7 @@ fn expect_room(text: &mut Cursor<'_>, may: bool) -> Result<(), Cause>
     }
 }
 
-/// A turn behind others, of so many at most.
+/// A turn after others, of so many at most.
 #[tactic(auto, unfolding(crate::specs::Grammar::turn))]
 fn read_turn(
     alloc: Global,

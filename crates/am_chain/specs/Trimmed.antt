@@ -23,6 +23,7 @@ kept_below keeps (suc k) = kept_below keeps k + (if keeps k then 1 else 0)
 abbrev pub moved_number : ℕ → (ℕ → Bool) → ℕ → ℕ
 moved_number given keeps n = if nat_lt n given then n else given + kept_below keeps (n - given)
 
+-- a step with its clause's number moved
 abbrev pub moved_step : (ℕ → ℕ) → Step → Step
 moved_step move step = record { variable = step.variable; clause = move step.clause }
 

@@ -11,20 +11,24 @@ pub sound_covers : (q : Question) → SoundCovers q
 sound_covers q terms sound e is_true = sound e.inputs is_true.inputs e.words is_true.members is_true.assumed
 
 -- a more precise transformer excludes what the other one does
-pub within_excludes : (q : Question) (better worse : List Term) → IsWithin q better worse → (e : Negative) → IsValidExample q e →
+pub within_excludes : (q : Question) (better worse : List Term) → IsWithin q better worse → (e : Negative) →
+    IsValidExample q e →
     Excludes q worse e → Excludes q better e
-within_excludes q better worse within e valid excluded = λ member. excluded (within e.inputs valid.inputs e.word valid.below member)
+within_excludes q better worse within e valid excluded = λ member.
+    excluded (within e.inputs valid.inputs e.word valid.below member)
 
 -- one that betters another excludes what the other one does
 pub better_excludes : (q : Question) → BetterExcludes q
 better_excludes q better worse betters = within_excludes q better worse betters.within
 
 -- the same of all examples in a list
-pub all_covered : (q : Question) (terms : List Term) (es : List Positive) → IsSound q terms → All (IsTrueExample q) es → All (Covers q terms) es
+pub all_covered : (q : Question) (terms : List Term) (es : List Positive) → IsSound q terms → All (IsTrueExample q) es →
+    All (Covers q terms) es
 all_covered q terms es sound are_true = λ k d below. sound_covers q terms sound (get_or es k d) (are_true k d below)
 
 -- the same of all examples in a list
-pub all_excluded : (q : Question) (better worse : List Term) (es : List Negative) → IsWithin q better worse → All (IsValidExample q) es →
+pub all_excluded : (q : Question) (better worse : List Term) (es : List Negative) → IsWithin q better worse →
+    All (IsValidExample q) es →
     All (Excludes q worse) es → All (Excludes q better) es
 all_excluded q better worse es within valid excluded =
     λ k d below. within_excludes q better worse within (get_or es k d) (valid k d below) (excluded k d below)

@@ -11,13 +11,15 @@ use Rattle.am_domain.proofs.Walks.{Contains-walk, part-between}
 
 -- what the members of a part are follows from what those of all values are, where the two words are a value
 pub part-IsPart : (d : Abstraction) → d.meaning.fields ≡ 2 → WalksMembers d → (w : ℕ) → IsWidth w → (a : List ℕ) →
-    IsAbstract d.meaning w a → (c e : ℕ) → c < 2 ^ w → e < 2 ^ w → steps w (slice_index a 0) c ≤ steps w (slice_index a 0) e →
+    IsAbstract d.meaning w a → (c e : ℕ) → c < 2 ^ w → e < 2 ^ w →
+    steps w (slice_index a 0) c ≤ steps w (slice_index a 0) e →
     d.meaning.Valid w (c ∷ e ∷ []) → IsPart d.meaning w (slice_index a 0) c e
 part-IsPart d two walks w width a h c e hc he order valid = record {
   valid = valid;
   members = λ x hx.
       let ends = pair-IsTuple w c e hc he in
-      let value : IsAbstract d.meaning w (c ∷ e ∷ []) = record { tuple = subst (λ n. IsTuple w n (c ∷ e ∷ [])) (sym two) ends; valid = valid } in
+      let value : IsAbstract d.meaning w (c ∷ e ∷ []) =
+      record { tuple = subst (λ n. IsTuple w n (c ∷ e ∷ [])) (sym two) ends; valid = valid } in
       let member = walks w width (c ∷ e ∷ []) value x hx in
       let among = Contains-walk w (c ∷ e ∷ []) x ends hx in
       let within = part-between w (slice_index a 0) c e x (h.tuple.words 0) hc he hx order in

@@ -103,7 +103,7 @@ impl Keeper<'_> {
     }
 
     /// Decides on the example at a place. Where the limit is reached, the log is answered, and the place is
-    /// behind those that are kept.
+    /// after those that are kept.
     fn decide(&self, selection: &mut Selection, place: u32) -> Result<Option<Log>, AllocError>
         requires keeper { IsKeeper self.now }
         requires place { place < length self.now.neg.now }

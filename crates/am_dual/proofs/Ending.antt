@@ -1,5 +1,6 @@
 -- How a synthesis ends.
-use Rattle.std.proofs.Common.{◌≡◌, ℕ, ◌+◌, ◌*◌, ◌^◌, ◌<◌, ◌≤◌, true, List, [], ◌∷◌, ◌++◌, length, refl, ap, subst, arith}
+use Rattle.std.proofs.Common.{◌≡◌, ℕ, ◌+◌, ◌*◌, ◌^◌, ◌<◌, ◌≤◌, true, List, [], ◌∷◌, ◌++◌, length, refl, ap, subst}
+use Rattle.std.proofs.Common.{arith}
 use Rattle.std.proofs.lemmas.List.Elements.{All-map}
 use Rattle.am_chain.specs.declared.chain.Chain.{Chain}
 use Rattle.am_domain.specs.Examples.{IsTrueExample, IsValidExample, NoneIsCloser, NoneSatisfies}
@@ -37,7 +38,8 @@ pub best_ends : (p : Problem) (s : Synthesis) (sound_log best_log : List Chain) 
 best_ends p s sound_log best_log underway sound sound_refuted none best_refuted =
     let q = question_of p in
     let is = shown p s underway in
-    let refuted = subst (λ (x : State). IsRefuted p (Precise s.term x.positives x.negatives) p.conflicts best_log) underway.state best_refuted in
+    let refuted = subst (λ (x : State). IsRefuted p (Precise s.term x.positives x.negatives) p.conflicts best_log)
+    underway.state best_refuted in
     record {
       right = (
         none_betters q s.term (positives_of p s.state.positives) (negatives_of p s.state.negatives)
@@ -61,7 +63,8 @@ pub absence_ends : (p : Problem) (trace : List Turn) (log : List Chain) → Noth
 absence_ends p trace log nothing =
     let q = question_of p in
     let positives = (after_trace trace).positives in
-    let are_true = All-map (IsTrueExample q) (positive_of p) positives (traces_show p trace nothing.within.valid).true in
+    let are_true =
+    All-map (IsTrueExample q) (positive_of p) positives (traces_show p trace nothing.within.valid).true in
     record {
       right = (
         none_is_sound q (positives_of p positives) are_true nothing.nothing,
@@ -140,7 +143,8 @@ module _ (p : Problem) (s : Synthesis) (log : List Chain) (underway : IsUnderway
   keep_spent e places uncovered are spent few =
       let asked = Keep s.term e places in
       let candidate = subst (λ (x : State). IsCandidate p x s.term) underway.state underway.candidate in
-      let places_asked = subst (λ (x : State). AreAskedPlaces p (x.positives ++ e ∷ []) x.negatives places) underway.state are in
+      let places_asked =
+      subst (λ (x : State). AreAskedPlaces p (x.positives ++ e ∷ []) x.negatives places) underway.state are in
       let on = subst (λ (x : State). IsSpentOn p (query_of x asked) p.conflicts log) underway.state spent in
       spent_ends p s.trace asked log underway.within (candidate, uncovered, places_asked) on few
 

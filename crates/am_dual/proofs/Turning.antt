@@ -24,8 +24,9 @@ use Rattle.am_dual.specs.declared.turns.Next.TheVariants.{End, Turn as NextTurn}
 use Rattle.am_dual.specs.inside.Underway.{GoesOn, IsNext, IsRight, IsUnderway, trace_so_far, turns_left}
 
 -- a transformer that excludes another negative example satisfies it too
-pub with_negative : (p : Problem) (t : List Term) (positives : List Positive) (negatives : List Negative) (e : Negative) →
-    Suits p t positives negatives → Excludes (question_of p) t (negative_of p e) → Suits p t positives (negatives ++ e ∷ [])
+pub with_negative : (p : Problem) (t : List Term) (positives : List Positive) (negatives : List Negative)
+    (e : Negative) → Suits p t positives negatives → Excludes (question_of p) t (negative_of p e) →
+    Suits p t positives (negatives ++ e ∷ [])
 with_negative p t positives negatives e suits excludes =
     let q = question_of p in
     let all = All-push (Excludes q t) (negatives_of p negatives) (negative_of p e) suits.excludes excludes in
@@ -103,7 +104,8 @@ module _ (p : Problem) (s : Synthesis) (underway : IsUnderway p p.turns s) where
         term = t;
       })
   after_negative e t sound admitted derivable suits =
-      let turn : IsTurn p s.state (NegativeTurn s.term e) = (underway.candidate, sound, admitted, (t, derivable, suits)) in
+      let turn : IsTurn p s.state (NegativeTurn s.term e) =
+      (underway.candidate, sound, admitted, (t, derivable, suits)) in
       record {
         within = longer (NegativeTurn s.term e) turn;
         state = further (NegativeTurn s.term e) turn;
@@ -134,7 +136,8 @@ pub next_is_right : (p : Problem) (trace : List Turn) (next : Next) → IsNext p
 next_is_right p trace (NextTurn s) is = is.0
 next_is_right p trace (End o) is = is.0
 
-pub next_goes_on : (p : Problem) (trace : List Turn) (next : Next) → IsNext p trace next → GoesOn trace (trace_so_far next)
+pub next_goes_on : (p : Problem) (trace : List Turn) (next : Next) → IsNext p trace next →
+    GoesOn trace (trace_so_far next)
 next_goes_on p trace (NextTurn s) is = (is.1.0 ∷ [], is.1.1)
 next_goes_on p trace (End o) (is, inl same) = ([], same ∙ sym (append-nil trace))
 next_goes_on p trace (End o) (is, inr (t, more)) = (t ∷ [], more)

@@ -1,6 +1,6 @@
 -- What is read of edges is spelled so, and what is spelled so is read.
-use Rattle.std.proofs.Common.{◌≡◌, ℕ, ◌-◌, ◌^◌, ◌<◌, ◌≤◌, Bool, true, false, List, [], ◌∷◌, ◌++◌, length, codes, decimal}
-use Rattle.std.proofs.Common.{refl, ap, ◌∙◌, subst, inl, inr, arith, lit<, bytes_eq}
+use Rattle.std.proofs.Common.{◌≡◌, ℕ, ◌-◌, ◌^◌, ◌<◌, ◌≤◌, true, false, List, [], ◌∷◌, ◌++◌, length, codes, decimal}
+use Rattle.std.proofs.Common.{refl, ap, inl, inr, arith, lit<, bytes_eq}
 use Rattle.std.specs.Prelude.{◌⊎◌, nat_lt}
 use Rattle.std.proofs.Math.Pow.{pow_mono}
 use Rattle.am_syntax.specs.Exact.{IsExact, always}
@@ -38,9 +38,11 @@ number_goes : (n : ℕ) (rest : Words) → is_number_next (decimal n ∷ rest) �
 number_goes n rest = digits_of_any n
 
 module _ (s : Shape) (is : IsShape s) where
+  -- a variable is read exactly where its number stands
   pub variable_law : IsExact (variable s) always
   variable_law = below_law 0 s.variables is.variables
 
+  -- a variable takes a token
   pub variable_moves : (seen : List ℕ) (a : ℕ) → (variable s).Good a → 0 < length ((variable s).spell a)
   unfolding below
   variable_moves seen a good = lit< tt
@@ -166,10 +168,12 @@ module _ (s : Shape) (is : IsShape s) where
       seen_law edge_of edge_parts (keyed_law syntax (codes "edge") (then_law node_law (λ _ _.
       then_law node_law (λ _ _. action_law) (λ _ _ _ _ _ _. tt)) (λ _ _ _ _ _ _. tt))) (λ x good. refl) (λ e. refl)
 
+  -- an edge is read exactly where one is spelled and there may be one more
   pub edge_law : (seen : List Edge) → IsExact (edge s seen) NoNumber
   unfolding edge
   edge_law seen = one_more_law (nat_lt (length seen) MOST_EDGES) edge_line_law
 
+  -- an edge takes tokens
   pub edge_moves : (seen : List Edge) (e : Edge) → (edge s seen).Good e → 0 < length ((edge s seen).spell e)
   unfolding edge edge_line
   edge_moves seen e good = omega arith
@@ -193,6 +197,7 @@ module _ (s : Shape) (is : IsShape s) where
       let e = same_bytes v (codes "end") h in
       (ap (λ w. bytes_eq w (codes "edge")) e, ap is_digits e)
 
+  -- edges are read exactly where they are spelled, up to the line after them
   pub edges_law : IsExact (edges s) Closes
   unfolding edges
   edges_law = repeat_law edge_law (next_is (codes "edge")) edge_moves closes_both edge_goes edge_is_no_number

@@ -1,7 +1,7 @@
 -- A loop over signatures that all fit so far.
-use Rattle.std.proofs.Common.{◌≡◌, ℕ, zero, suc, ◌+◌, ◌<◌, ◌≤◌, List, [], ◌∷◌, get_or, length, take, refl, sym, ap, ◌∙◌}
+use Rattle.std.proofs.Common.{◌≡◌, ℕ, zero, suc, ◌+◌, ◌<◌, List, [], ◌∷◌, get_or, length, take, refl, sym, ap, ◌∙◌}
 use Rattle.std.proofs.Common.{subst, arith, inl, inr}
-use Rattle.std.specs.Prelude.{Option, Some, None, slice_get}
+use Rattle.std.specs.Prelude.{Option, Some, slice_get}
 use Rattle.std.proofs.lemmas.Bool.{cases_lt}
 use Rattle.std.proofs.lemmas.Option.{slice_get_read}
 use Rattle.am_flow.specs.declared.signature.Signature.{Signature}
@@ -31,8 +31,10 @@ AllFit-more f signatures i s below here all fits j t e =
       | inl less ↦ all j t (in_front i signatures j t less whole.1)
       | inr past ↦
           let same : j ≡ i = omega (arith, whole.0, past) in
-          let item : slice_get signatures i ≡ Some s = slice_get_read signatures (length signatures) i s refl below here in
-          let is : ◌≡◌ {A = Option Signature} (Some s) (Some t) = sym item ∙ ap (slice_get signatures) (sym same) ∙ whole.1 in
+          let item : slice_get signatures i ≡ Some s =
+          slice_get_read signatures (length signatures) i s refl below here in
+          let is : ◌≡◌ {A = Option Signature} (Some s) (Some t) =
+          sym item ∙ ap (slice_get signatures) (sym same) ∙ whole.1 in
           let one : s ≡ t = cc in
           subst (λ (n : ℕ). Fits f n t) (sym same) (subst (Fits f i) one fits)
     ]

@@ -1,14 +1,13 @@
 -- Flows are read exactly where they are spelled, and a flow is good exactly where it is within the limits.
-use Rattle.std.proofs.Common.{◌≡◌, ℕ, suc, ◌+◌, ◌<◌, ◌≤◌, ◌^◌, Bool, true, List, [], ◌∷◌, ◌++◌, length, codes, refl, ap, sym}
-use Rattle.std.proofs.Common.{◌∙◌, subst, arith, lit<, lit≤, Ok, IsTrue, length-append}
-use Rattle.std.specs.Prelude.{All, nat_lt}
+use Rattle.std.proofs.Common.{◌≡◌, ℕ, ◌+◌, ◌<◌, ◌≤◌, ◌^◌, List, [], ◌∷◌, ◌++◌, length, codes, refl, ap}
+use Rattle.std.proofs.Common.{arith, lit<, lit≤, Ok, length-append}
+use Rattle.std.specs.Prelude.{All}
 use Rattle.std.proofs.lemmas.Bool.{lt-ltb, ltb-true}
 use Rattle.std.proofs.lemmas.Nat.{pow_pos}
 use Rattle.std.proofs.lemmas.List.Elements.{All-cons, All-head, All-nil, All-tail}
 use Rattle.am_problem.proofs.Laws.{domain_law}
 use Rattle.am_problem.specs.Grammar.{domain}
 use Rattle.am_text.specs.Tokens.{Left}
-use Rattle.am_syntax.specs.Exact.{IsExact, always}
 use Rattle.am_syntax.specs.Pieces.{below, good_from, key_or, number, syntax}
 use Rattle.am_syntax.proofs.Laws.{closed_law, keyed_law, number_law, seen_law, then_law}
 use Rattle.am_flow.specs.declared.flow.Action.{Action}
@@ -26,6 +25,7 @@ use Rattle.am_flow.proofs.EdgeLaws.{edges_law}
 abbrev pub shape_at : ℕ → ℕ → ℕ → ℕ → Shape
 shape_at n w v m = record { width = w; operations = n; variables = v; nodes = m }
 
+-- counts within a flow's limits make a shape
 pub small_shape : (n w v m : ℕ) → n < 2 ^ 32 → w ≤ 8 → v ≤ 8 → m ≤ 64 → IsShape (shape_at n w v m)
 small_shape n w v m few narrow some short =
     record { width = narrow; operations = omega arith; variables = omega arith; nodes = omega arith }
@@ -33,6 +33,7 @@ small_shape n w v m few narrow some short =
 there : (x : FlowParts) → (1 ≤ x.0) × (x.0 ≤ 1) → flow_parts (flow_of x) ≡ x
 there x one = ap (λ (n : ℕ). (n, x.1)) (let e : 1 ≡ x.0 = omega (arith, one) in e)
 
+-- a flow is read exactly where one within the limits is spelled
 pub flow_law : FlowsAreExact
 unfolding flow number
 flow_law n few =

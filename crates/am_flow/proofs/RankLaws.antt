@@ -12,10 +12,10 @@ use Rattle.am_problem.specs.lemmas.KindLaws.{laws_of}
 use Rattle.am_flow.specs.declared.flow.Edge.{Edge}
 use Rattle.am_flow.specs.Flows.{AreOperations, Flow, Operation}
 use Rattle.am_flow.specs.States.{Entry, IsTable, Row, State, all_joined, edge_step, entries_from, entry_after, entry_at}
-use Rattle.am_flow.specs.States.{first_state, joined, joined_rows, round, state_after}
+use Rattle.am_flow.specs.States.{first_state, joined, joined_rows, round}
 use Rattle.am_flow.specs.inside.Ranks.{IsReached, entry_rank, most_rank, most_rounds, row_rank, state_rank}
 use Rattle.am_flow.specs.inside.Rows.{IsEntry, IsRow, IsState}
-use Rattle.am_flow.proofs.RowLaws.{IsValue, joined_entry, first_state_state, round_state, states_are, steps_are_entries}
+use Rattle.am_flow.proofs.RowLaws.{IsValue, joined_entry, first_state_state, states_are, steps_are_entries}
 
 -- the new one is the old one, or measures less
 abbrev pub SameOrLess : {A : Type 0} → (A → ℕ) → A → A → Type 0
@@ -105,7 +105,8 @@ module _ (f : Flow) (width : IsWidth f.width) where
 
 module _ (f : Flow) (operations : List Operation) (are : AreOperations f operations) (state : State)
     (is : IsState f state) where
-  entry_after_falls : (n : ℕ) → n < f.nodes → SameOrLess (entry_rank f) (entry_at state n) (entry_after f operations state n)
+  entry_after_falls : (n : ℕ) → n < f.nodes →
+      SameOrLess (entry_rank f) (entry_at state n) (entry_after f operations state n)
   entry_after_falls n below =
       all_fall f are.flow.width (entry_at state n)
       (map (edge_step f operations state) (filter (λ (e : Edge). e.to == n) f.edges))
@@ -119,11 +120,13 @@ module _ (f : Flow) (operations : List Operation) (are : AreOperations f operati
   entries_fall n zero (e ∷ entries) within many same = absurd (omega (arith, many))
   entries_fall n (suc count) [] within many same = absurd (omega (arith, many))
   entries_fall n (suc count) (e ∷ entries) within many same =
-      let here : e ≡ entry_at state n = same 0 (omega arith) ∙ ap (entry_at state) (let z : n + 0 ≡ n = omega arith in z) in
+      let here : e ≡ entry_at state n =
+      same 0 (omega arith) ∙ ap (entry_at state) (let z : n + 0 ≡ n = omega arith in z) in
       let falls : SameOrLess (entry_rank f) e (entry_after f operations state n) =
       subst (λ (x : Entry). SameOrLess (entry_rank f) x (entry_after f operations state n)) (sym here)
       (entry_after_falls n (omega arith)) in
-      less_cons (entry_rank f) e (entry_after f operations state n) entries (entries_from f operations state (suc n) count)
+      less_cons (entry_rank f) e (entry_after f operations state n) entries
+      (entries_from f operations state (suc n) count)
       falls
       (entries_fall (suc n) count entries (omega arith) (omega (arith, many))
       (λ k below. same (suc k) (omega arith) ∙ ap (entry_at state) (let z : n + suc k ≡ suc n + k = omega arith in z)))
@@ -157,6 +160,7 @@ module _ (f : Flow) (operations : List Operation) (are : AreOperations f operati
         | inr less ↦ omega (arith, less, ap (state_rank f) e)
       ]
 
+  -- a round that changes a state is one of the few
   pub next_reached : (state next : State) → IsReached f operations state → next ≡ round f operations state →
       next ≢ state → IsReached f operations next
   next_reached state next r e other = record {

@@ -1,5 +1,5 @@
 -- A loop that joins the step of one edge after another gives the state after a round.
-use Rattle.std.proofs.Common.{◌≡◌, ◌≢◌, ℕ, zero, suc, ◌+◌, ◌<◌, ◌≤◌, Bool, true, false, cond, List, [], ◌∷◌, ◌++◌, get_or}
+use Rattle.std.proofs.Common.{◌≡◌, ℕ, zero, suc, ◌+◌, ◌<◌, ◌≤◌, Bool, true, false, cond, List, [], ◌∷◌, ◌++◌, get_or}
 use Rattle.std.proofs.Common.{length, map, take, refl, sym, ap, ◌∙◌, subst, inl, inr, arith, append-nil}
 use Rattle.std.specs.Prelude.{All, None, Some, filter, slice_set, ◌==◌}
 use Rattle.std.proofs.lemmas.Bool.{cases_eq, eq-eqb, ne_eqb}
@@ -7,7 +7,8 @@ use Rattle.std.proofs.lemmas.List.{get_or-set_other, get_or-set_same, length-set
 use Rattle.std.proofs.lemmas.List.Elements.{All-from_get_or, All-take, filter_more}
 use Rattle.am_flow.specs.declared.flow.Edge.{Edge}
 use Rattle.am_flow.specs.Flows.{AreOperations, Flow, Operation}
-use Rattle.am_flow.specs.States.{Entry, State, all_joined, edge_step, entries_from, entry_after, entry_at, joined, round}
+use Rattle.am_flow.specs.States.{Entry, State, all_joined, edge_step, entries_from, entry_after, entry_at, joined}
+use Rattle.am_flow.specs.States.{round}
 use Rattle.am_flow.specs.inside.Rows.{IsEntry, IsState}
 use Rattle.am_flow.specs.inside.Steps.{CanFollow}
 use Rattle.am_flow.proofs.RowLaws.{all_follow, all_joined_entry, steps_of}
@@ -63,7 +64,8 @@ module _ (f : Flow) (operations : List Operation) (before : State) where
       ∙ entry_by-push (take i edges) e n b h
 
   -- before the first edge
-  pub after_none : (edges : List Edge) (state : State) → IsState f before → state ≡ before → IsAfter (take 0 edges) state
+  pub after_none : (edges : List Edge) (state : State) → IsState f before → state ≡ before →
+      IsAfter (take 0 edges) state
   after_none edges state is e = record {
     counted = ap length e ∙ is.counted;
     entries = λ n below. ap (λ (s : State). entry_at s n) e;
@@ -106,7 +108,7 @@ module _ (f : Flow) (operations : List Operation) (before : State) where
       (λ k below. same (suc k) (omega arith) ∙ ap after (let z : n + suc k ≡ suc n + k = omega arith in z)) in
       ap (λ (x : Entry). x ∷ entries) here ∙ ap (λ (xs : List Entry). after n ∷ xs) rest
 
-  -- behind the last edge
+  -- after the last edge
   pub after_all : (i : ℕ) (state : State) → length f.edges ≤ i → IsAfter (take i f.edges) state →
       state ≡ round f operations before
   after_all i state past is =

@@ -1,6 +1,6 @@
 -- The rows, entries and states of an analysis have abstract values, and keep them.
-use Rattle.std.proofs.Common.{◌≡◌, ℕ, zero, suc, ◌+◌, ◌-◌, ◌<◌, ◌≤◌, List, [], ◌∷◌, get_or, length, map, replicate, refl}
-use Rattle.std.proofs.Common.{sym, ap, ◌∙◌, subst, arith, ◌++◌, flat_map}
+use Rattle.std.proofs.Common.{◌≡◌, ℕ, zero, suc, ◌+◌, ◌-◌, ◌<◌, ◌≤◌, List, [], ◌∷◌, get_or, length, map, replicate}
+use Rattle.std.proofs.Common.{refl, sym, ap, ◌∙◌, subst, arith, ◌++◌, flat_map}
 use Rattle.std.specs.Prelude.{All, MatchOption, Option, None, Some, filter, slice_get, slice_set, ◌==◌}
 use Rattle.std.specs.List.{concat}
 use Rattle.std.specs.Option.{option_map}
@@ -20,7 +20,7 @@ use Rattle.am_problem.specs.lemmas.KindLaws.{laws_of}
 use Rattle.am_flow.specs.declared.flow.Action.{Action}
 use Rattle.am_flow.specs.declared.flow.Action.TheVariants.{Any, Apply, Copy, Set, Skip}
 use Rattle.am_flow.specs.declared.flow.Edge.{Edge}
-use Rattle.am_flow.specs.Flows.{AreOperations, Flow, IsEdge, Operation}
+use Rattle.am_flow.specs.Flows.{AreOperations, Flow, Operation}
 use Rattle.am_flow.specs.States.{Entry, Row, State, all_joined, applied, at, edge_step, entries_from, entry_after}
 use Rattle.am_flow.specs.States.{entry_at, first_state, from_entry, joined, joined_rows, round, state_after, stepped}
 use Rattle.am_flow.specs.inside.Rows.{IsEntry, IsRow, IsState}
@@ -32,6 +32,7 @@ found [] i h = absurd (omega arith)
 found (x ∷ xs) zero h = (x, refl)
 found (x ∷ xs) (suc i) h = found xs i (omega arith)
 
+-- an abstract value of the flow's domain and width
 abbrev pub IsValue : Flow → List ℕ → Type 0
 IsValue f a = IsAbstract (meaning_of f.kind) f.width a
 
@@ -45,6 +46,7 @@ module _ (f : Flow) where
     values = All-set (IsValue f) row a value one is.values;
   }
 
+  -- a joined row is as long as the first
   pub length-joined_rows : (row others : Row) → length (joined_rows f row others) ≡ length row
   length-joined_rows [] others = refl
   length-joined_rows (a ∷ row) [] = refl
@@ -67,11 +69,13 @@ module _ (f : Flow) (width : IsWidth f.width) where
     values = joined_values row others one.values two.values;
   }
 
+  -- the join of two entries is an entry
   pub joined_entry : (e s : Entry) → IsEntry f e → IsEntry f s → IsEntry f (joined f e s)
   joined_entry None s one two = two
   joined_entry (Some a) None one two = one
   joined_entry (Some a) (Some b) one two = joined_row a b one two
 
+  -- and so is the join of many
   pub all_joined_entry : (e : Entry) (steps : List Entry) → IsEntry f e → All (IsEntry f) steps →
       IsEntry f (all_joined f e steps)
   all_joined_entry e [] one all = one
@@ -111,7 +115,8 @@ module _ (f : Flow) (o : Operation) (from : List ℕ) (row : Row) (is : IsRow f 
       let cut = inputs_cut in
       let whole = results_are_tuples p can.problem.formed o.terms (concat (at [] row from)) can.transformer cut.0 in
       let tuple : IsTuple p.width (fields_of p.kind) raw =
-      subst (λ (r : List (List ℕ)). IsTuple p.width (fields_of p.kind) (results (question_of p) o.terms r)) cut.1 whole in
+      subst (λ (r : List (List ℕ)). IsTuple p.width (fields_of p.kind) (results (question_of p) o.terms r))
+      cut.1 whole in
       subst (λ (k : Kind). IsTuple f.width (fields_of k) raw) can.kind
       (subst (λ (w : ℕ). IsTuple w (fields_of p.kind) raw) can.width tuple)
 
@@ -155,7 +160,8 @@ module _ (f : Flow) (operations : List Operation) (are : AreOperations f operati
       let can = can_apply i a from o.0 act o.1 in
       let raw = results (question_of o.0.problem) o.0.terms (at [] row from) in
       let tidied = (laws_of f.kind).tidies f.width are.flow.width raw (result_tuple f o.0 from row is can) in
-      subst (λ (r : Option Operation). IsEntry f (option_map (slice_set row a) (applied f r (at [] row from)))) (sym o.1)
+      subst (λ (r : Option Operation). IsEntry f (option_map (slice_set row a) (applied f r (at [] row from))))
+      (sym o.1)
       (tidied_entry f row a _ _ ((abstraction_of f.kind).tidy f.width raw) is tidied)
 
   from_entry_entry : (action : Action) (e : Entry) → CanAct f operations action → IsEntry f e →
@@ -174,6 +180,7 @@ module _ (f : Flow) (operations : List Operation) (are : AreOperations f operati
       }
 
   module _ (state : State) (is : IsState f state) where
+    -- the step of an edge is an entry
     pub edge_entry : (e : Edge) → CanFollow f operations e → IsEntry f (edge_step f operations state e)
     edge_entry e can =
         from_entry_entry e.action (entry_at state e.from) can.acts
@@ -212,6 +219,7 @@ module _ (f : Flow) (operations : List Operation) (are : AreOperations f operati
   length-entries_from state n zero = refl
   length-entries_from state n (suc count) = ap suc (length-entries_from state (suc n) count)
 
+  -- a round leads from a state to a state
   pub round_state : (state : State) → IsState f state → IsState f (round f operations state)
   round_state state is = record {
     counted = length-entries_from state 0 f.nodes;
@@ -225,6 +233,7 @@ module _ (f : Flow) (operations : List Operation) (are : AreOperations f operati
         ((laws_of f.kind).has_top f.width are.flow.width).0;
   }
 
+  -- the first state is one
   pub first_state_state : IsState f (first_state f)
   first_state_state =
       let top = replicate f.variables ((abstraction_of f.kind).top f.width) in

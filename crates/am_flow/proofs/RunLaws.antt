@@ -1,11 +1,11 @@
 -- The table of a flow with sound transformers covers its runs.
-use Rattle.std.proofs.Common.{◌≡◌, ℕ, zero, suc, ◌+◌, ◌^◌, ◌<◌, ◌≤◌, Bool, true, false, cond, List, [], ◌∷◌, get_or}
-use Rattle.std.proofs.Common.{length, map, replicate, refl, sym, ap, ◌∙◌, subst, inl, inr, arith}
+use Rattle.std.proofs.Common.{◌≡◌, ℕ, zero, suc, ◌+◌, ◌^◌, ◌<◌, Bool, cond, List, [], ◌∷◌, get_or}
+use Rattle.std.proofs.Common.{length, map, replicate, sym, ap, ◌∙◌, subst, inl, inr, arith}
 use Rattle.std.specs.Prelude.{All, Contains, MatchOption, Option, None, Some, filter, slice_get, slice_set, ◌==◌}
-use Rattle.std.specs.List.{AllZip, concat}
+use Rattle.std.specs.List.{AllZip}
 use Rattle.std.specs.Option.{option_map}
 use Rattle.std.proofs.lemmas.Bool.{cases_Bool, eq-eqb}
-use Rattle.std.proofs.lemmas.List.{length-map, length-set}
+use Rattle.std.proofs.lemmas.List.{length-set}
 use Rattle.std.proofs.lemmas.List.Elements.{All-contains, All-head, All-tail}
 use Rattle.std.proofs.lemmas.Option.{get_or_from_slice_get}
 use Rattle.am_bv.specs.Words.{AreWords, IsWidth}
@@ -21,9 +21,9 @@ use Rattle.am_flow.specs.declared.flow.Action.{Action}
 use Rattle.am_flow.specs.declared.flow.Action.TheVariants.{Any, Apply, Copy, Set, Skip}
 use Rattle.am_flow.specs.declared.flow.Edge.{Edge}
 use Rattle.am_flow.specs.Flows.{AreOperations, Flow, Operation}
-use Rattle.am_flow.specs.Runs.{AllSound, Applies, CoversRuns, GoesAlong, HasWords, IsRun, Moves, Point, TablesCoverRuns}
+use Rattle.am_flow.specs.Runs.{AllSound, Applies, HasWords, IsRun, Moves, Point, TablesCoverRuns}
 use Rattle.am_flow.specs.States.{Entry, IsTable, Row, State, all_joined, applied, at, edge_step, entry_after, entry_at}
-use Rattle.am_flow.specs.States.{first_state, from_entry, joined, joined_rows, round, state_after, stepped}
+use Rattle.am_flow.specs.States.{from_entry, joined, joined_rows, round, state_after, stepped}
 use Rattle.am_flow.specs.inside.Rows.{IsEntry, IsRow, IsState}
 use Rattle.am_flow.specs.inside.Steps.{CanAct, CanApply, CanFollow}
 use Rattle.am_flow.proofs.RowLaws.{IsValue, all_follow, are_inputs, can_apply, edge_entry, found, joined_entry}
@@ -143,7 +143,7 @@ module _ (f : Flow) (operations : List Operation) (are : AreOperations f operati
   abbrev After : Entry → List Edge → Type 0
   After e edges = HasWords f (all_joined f e (map step edges)) words
 
-  -- what the step of an edge has is kept by the edges behind it
+  -- what the step of an edge has is kept by the edges after it
   edges_keep : (e : Entry) (edges : List Edge) → IsEntry f e → All (CanFollow f operations) edges → HasWords f e words →
       After e (filter goes_in edges)
   edges_keep e edges one can has =
@@ -253,7 +253,8 @@ module _ (f : Flow) (o : Operation) (from : List ℕ) (row : Row) (before : List
   value_word : (question_of o.problem).operation (at 0 before from) < 2 ^ f.width
   value_word =
       let q = question_of o.problem in
-      let words = members_are_words o.problem (at [] row from) (at 0 before from) (are_inputs f o from row is can).counted
+      let words =
+      members_are_words o.problem (at [] row from) (at 0 before from) (are_inputs f o from row is can).counted
       members_taken in
       subst (λ (w : ℕ). q.operation (at 0 before from) < 2 ^ w) can.width
       (operations_give_words o.problem can.problem.formed (at 0 before from) words)
@@ -300,7 +301,8 @@ module _ (f : Flow) (operations : List Operation) (are : AreOperations f operati
       (zip_at (IsMemberOf f) row before b [] 0 all (omega (arith, is.counted, act.named.1)))) moves.2
   step_has (Apply i a from) row before after act is words all moves =
       let o = found operations i act.named.0 in
-      subst (λ (r : Option Operation). Has f (option_map (slice_set row a) (applied f r (at [] row from))) after) (sym o.1)
+      subst (λ (r : Option Operation). Has f (option_map (slice_set row a) (applied f r (at [] row from))) after)
+      (sym o.1)
       (applied_has i a from row before after o.0 act o.1 is words all
       (subst (λ (r : Option Operation). Applies r a (at 0 before from) before after) o.1 moves))
 
@@ -313,7 +315,8 @@ module _ (f : Flow) (operations : List Operation) (are : AreOperations f operati
   -- ---- runs
 
   -- each state has the words of a run's first point
-  starts_have : (n : ℕ) (words : List ℕ) → AreWordsOf f words → HasWords f (entry_at (state_after f operations n) 0) words
+  starts_have : (n : ℕ) (words : List ℕ) → AreWordsOf f words →
+      HasWords f (entry_at (state_after f operations n) 0) words
   starts_have zero words is =
       top_zip f are.flow.width f.variables words is.counted is.words
   starts_have (suc n) words is =
@@ -354,5 +357,6 @@ module _ (f : Flow) (operations : List Operation) (are : AreOperations f operati
           are = after.are;
         }
 
+-- a table covers each run, where the transformers are sound
 pub tables_cover : TablesCoverRuns
 tables_cover f operations table are sound is p run r = (run_has f operations are sound table is p run r).members

@@ -1,5 +1,5 @@
 -- The text of a table, line by line, and of a value, field by field.
-use Rattle.std.proofs.Common.{◌≡◌, ℕ, zero, suc, ◌+◌, ◌-◌, ◌<◌, ◌≤◌, List, [], ◌∷◌, ◌++◌, get_or, length, take, drop, codes}
+use Rattle.std.proofs.Common.{◌≡◌, ℕ, suc, ◌+◌, ◌-◌, ◌<◌, ◌≤◌, List, [], ◌∷◌, ◌++◌, get_or, length, take, drop, codes}
 use Rattle.std.proofs.Common.{decimal, flat_map, refl, sym, ap, ◌∙◌, subst, arith, append_assoc, append-nil}
 use Rattle.std.proofs.lemmas.List.{drop_more, length-take-le, take-append-drop, take_more, take_rest}
 use Rattle.am_syntax.proofs.Laws.{grew_first, grew_next}
@@ -7,7 +7,7 @@ use Rattle.am_syntax.specs.Canonical.{GrewToward}
 use Rattle.am_flow.specs.States.{Entry, Row, State}
 use Rattle.am_flow.specs.Texts.{entry_text, lines_from, row_text, value_text}
 
--- the first field, and the others behind commas
+-- the first field, and the others after commas
 value_text-cons : (c : ℕ) (cs : List ℕ) → value_text (c ∷ cs) ≡ decimal c ++ flat_map (λ d. 44 ∷ decimal d) cs
 value_text-cons c [] = sym (append-nil (decimal c))
 value_text-cons c (d ∷ cs) = ap (λ (bs : List ℕ). decimal c ++ 44 ∷ bs) (value_text-cons d cs)
@@ -20,7 +20,7 @@ value_text-first (c ∷ cs) some =
     value_text-cons c cs
     ∙ ap (λ (ds : List ℕ). decimal c ++ flat_map (λ d. 44 ∷ decimal d) ds) (sym (take_rest (c ∷ cs) 1))
 
--- each value behind a space
+-- each value after a space
 pub row_text-each : (row : Row) → row_text row ≡ flat_map (λ a. 32 ∷ value_text a) row
 row_text-each [] = refl
 row_text-each (a ∷ row) = ap (λ (bs : List ℕ). 32 ∷ (value_text a ++ bs)) (row_text-each row)
@@ -28,7 +28,7 @@ row_text-each (a ∷ row) = ap (λ (bs : List ℕ). 32 ∷ (value_text a ++ bs))
 regrouped : (a b c d : List ℕ) → a ++ (b ++ (c ++ d)) ≡ (a ++ (b ++ c)) ++ d
 regrouped a b c d = simp append_assoc
 
--- the line of the first node, and those behind it
+-- the line of the first node, and those after it
 lines-cons : (n : ℕ) (e : Entry) (table : State) →
     lines_from n (e ∷ table) ≡ lines_from n (e ∷ []) ++ lines_from (suc n) table
 lines-cons n e table =
@@ -53,7 +53,7 @@ module _ (entries : State) (i : ℕ) (e : Entry) (below : i < length entries) (h
       ∙ ap (λ m. lines_from 0 (take i entries) ++ lines_from m more)
       (let z : 0 + length (take i entries) ≡ i = omega (arith, length-take-le i entries (omega arith)) in z)
 
-  -- the line of a place was written behind those before it
+  -- the line of a place was written after those before it
   pub wrote_node : (old mid new : List ℕ) → mid ≡ old ++ lines_from 0 (take i entries) →
       new ≡ mid ++ lines_from i (e ∷ []) → new ≡ old ++ lines_from 0 (take (i + 1) entries)
   wrote_node old mid new done last =

@@ -77,6 +77,7 @@ pub record Operation : Type 0 where
   pub problem : Problem
   pub terms : List Term
 
+-- what a flow asks of an operation, of which a best transformer is known
 abbrev pub signature_of : Operation → Signature
 signature_of o =
     record { width = o.problem.width; inputs = o.problem.inputs; kind = o.problem.kind; best = true }

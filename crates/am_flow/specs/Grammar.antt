@@ -22,9 +22,11 @@ pub record Shape : Type 0 where
   pub variables : ℕ
   pub nodes : ℕ
 
+-- the number of a variable
 abbrev pub variable : Shape → Piece ℕ
 variable s = below 0 s.variables
 
+-- whether the next token is a row of digits
 abbrev pub is_number_next : Words → Bool
 is_number_next [] = false
 is_number_next (v ∷ vs) = is_digits v
@@ -34,9 +36,11 @@ abbrev pub application : Shape → Piece (ℕ × (ℕ × (ℕ × List ℕ)))
 application s =
     below 0 s.operations ▹ λ _. variable s ▹ λ _. variable s ▹ λ _. repeat is_number_next (λ _. variable s)
 
+-- skip, any, set, copy or apply, each with the numbers that follow it
 abbrev pub ActionParts : Type 0
 ActionParts = Unit {0} ⊎ (ℕ ⊎ ((ℕ × ℕ) ⊎ ((ℕ × ℕ) ⊎ (ℕ × (ℕ × (ℕ × List ℕ))))))
 
+-- the action that was read
 abbrev pub action_of : ActionParts → Action
 action_of (inl u) = Skip
 action_of (inr (inl a)) = Any a
@@ -64,9 +68,11 @@ action s = seen_as action_of (action_parts s) (
 
 -- ---- edges
 
+-- the edge that was read
 abbrev pub edge_of : ℕ × (ℕ × Action) → Edge
 edge_of (from, (to, action)) = record { from = from; to = to; action = action }
 
+-- what is spelled of an edge
 abbrev pub edge_parts : Edge → ℕ × (ℕ × Action)
 edge_parts e = (e.from, (e.to, e.action))
 
@@ -75,22 +81,26 @@ unfoldable pub edge_line : Shape → Piece Edge
 edge_line s =
     seen_as edge_of edge_parts (keyed (codes "edge") (below 0 s.nodes ▹ λ _. below 0 s.nodes ▹ λ _. action s))
 
--- an edge behind others, of which there may be one more
+-- an edge after others, of which there may be one more
 unfoldable pub edge : Shape → List Edge → Piece Edge
 edge s seen = one_more (nat_lt (length seen) MOST_EDGES) (edge_line s)
 
+-- the edges of a flow, one line each
 unfoldable pub edges : Shape → Piece (List Edge)
 edges s = repeat (next_is (codes "edge")) (edge s)
 
 -- ---- the whole
 
+-- the version, the width, the domain, the numbers of variables and nodes, and the edges
 abbrev pub FlowParts : Type 0
 FlowParts = ℕ × (ℕ × (Kind × (ℕ × (ℕ × List Edge))))
 
+-- the flow that was read
 abbrev pub flow_of : FlowParts → Flow
 flow_of (_, (w, (kind, (v, (m, edges))))) =
     record { width = w; kind = kind; variables = v; nodes = m; edges = edges }
 
+-- what is spelled of a flow, in version 1
 abbrev pub flow_parts : Flow → FlowParts
 flow_parts f = (1, (f.width, (f.kind, (f.variables, (f.nodes, f.edges)))))
 

@@ -56,9 +56,11 @@ stepped f operations (Copy a b) row = Some (slice_set row a (slice_index_or row 
 stepped f operations (Apply i a from) row =
     option_map (slice_set row a) (applied f (slice_get operations i) (at [] row from))
 
+-- what is known at a node
 abbrev pub entry_at : State → ℕ → Entry
 entry_at state n = slice_index_or state n None
 
+-- what an action makes of an entry: nothing of nothing
 abbrev pub from_entry : Flow → List Operation → Action → Entry → Entry
 from_entry f operations action None = None
 from_entry f operations action (Some row) = stepped f operations action row
@@ -69,6 +71,7 @@ edge_step f operations state e = from_entry f operations e.action (entry_at stat
 
 -- ---- rounds
 
+-- an entry joined with others, one after another
 abbrev pub all_joined : Flow → Entry → List Entry → Entry
 all_joined f e [] = e
 all_joined f e (s ∷ steps) = all_joined f (joined f e s) steps
@@ -79,6 +82,7 @@ entry_after f operations state n =
     all_joined f (entry_at state n)
     (map (edge_step f operations state) (filter (λ (e : Edge). e.to == n) f.edges))
 
+-- the entries of so many nodes, from n on, after a round
 abbrev pub entries_from : Flow → List Operation → State → ℕ → ℕ → State
 entries_from f operations state n zero = []
 entries_from f operations state n (suc count) =
@@ -92,6 +96,7 @@ round f operations state = entries_from f operations state 0 f.nodes
 abbrev pub first_state : Flow → State
 first_state f = Some (replicate f.variables ((abstraction_of f.kind).top f.width)) ∷ replicate (f.nodes - 1) None
 
+-- the state after so many rounds
 abbrev pub state_after : Flow → List Operation → ℕ → State
 state_after f operations zero = first_state f
 state_after f operations (suc n) = round f operations (state_after f operations n)

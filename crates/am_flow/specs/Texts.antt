@@ -24,7 +24,7 @@ value_text [] = []
 value_text (c ∷ []) = decimal c
 value_text (c ∷ d ∷ cs) = decimal c ++ 44 ∷ value_text (d ∷ cs)
 
--- each value behind a space
+-- each value after a space
 abbrev pub row_text : Row → List ℕ
 row_text [] = []
 row_text (a ∷ row) = 32 ∷ (value_text a ++ row_text row)

@@ -11,7 +11,7 @@ use am_syntax::print_word;
 use am_text::Writer;
 use std::alloc::AllocError;
 
-/// Appends a field behind a comma.
+/// Appends a field after a comma.
 fn print_further(out: &mut Writer, field: u8) -> Result<(), AllocError>
     ensures { Appends result out.old out.new (44 ∷ decimal field) }
 {
@@ -19,7 +19,7 @@ fn print_further(out: &mut Writer, field: u8) -> Result<(), AllocError>
     out.number(u128::from(field))
 }
 
-/// Appends fields, each behind a comma.
+/// Appends fields, each after a comma.
 fn print_others(out: &mut Writer, fields: &[u8]) -> Result<(), AllocError>
     ensures { Appends result out.old out.new (flat_map (λ c. 44 ∷ decimal c) fields.now) }
 {
@@ -42,7 +42,7 @@ fn print_value(out: &mut Writer, value: &Fields) -> Result<(), AllocError>
     }
 }
 
-/// Appends a value behind a space.
+/// Appends a value after a space.
 fn print_spaced(out: &mut Writer, value: &Fields) -> Result<(), AllocError>
     ensures { Appends result out.old out.new (32 ∷ value_text value.now) }
 {
@@ -50,7 +50,7 @@ fn print_spaced(out: &mut Writer, value: &Fields) -> Result<(), AllocError>
     print_value(out, value)
 }
 
-/// Appends values, each behind a space.
+/// Appends values, each after a space.
 fn print_values(out: &mut Writer, values: &[Fields]) -> Result<(), AllocError>
     ensures { Appends result out.old out.new (flat_map (λ a. 32 ∷ value_text a) values.now) }
 {

@@ -142,7 +142,7 @@ fn read_more(alloc: Global, text: &mut Cursor<'_>, shape: &Shape) -> Result<Vari
     read_list(alloc, text, &More { shape: *shape })
 }
 
-/// A variable and those behind it.
+/// A variable and those after it.
 fn before(alloc: Global, first: u32, more: &[u32]) -> Result<Variables, AllocError>
     ensures { IfOk result (λ all. all ≡ first ∷ more.now) }
 {
@@ -208,7 +208,7 @@ fn read_edge_line(alloc: Global, text: &mut Cursor<'_>, shape: &Shape) -> Result
     Ok(Edge { from, to, action })
 }
 
-/// An edge behind others, of which there may be one more.
+/// An edge after others, of which there may be one more.
 #[tactic(auto, unfolding(crate::specs::Grammar::edge))]
 fn read_edge(
     alloc: Global,

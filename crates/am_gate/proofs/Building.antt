@@ -1,5 +1,6 @@
 -- Rules of steps: what calls follow, and what values mean.
-use Rattle.std.proofs.Common.{◌≡◌, ℕ, ◌+◌, ◌*◌, Bool, not, cond, Option, None, Some, List, [], ◌∷◌, ◌++◌, ◌&&◌, refl, sym, ◌∙◌, ap, subst}
+use Rattle.std.proofs.Common.{◌≡◌, ℕ, ◌+◌, ◌*◌, Bool, not, cond, Option, None, Some, List, [], ◌∷◌, ◌++◌, ◌&&◌, refl}
+use Rattle.std.proofs.Common.{sym, ◌∙◌, ap, subst}
 use Rattle.std.specs.Prelude.{IsTrue}
 use Rattle.std.specs.Bool.{beq}
 use Rattle.am_lit.specs.Truth.{literal_value}
@@ -16,14 +17,15 @@ unfolding built
 built-append n [] fs = refl
 built-append n (e ∷ es) fs = built-append (after n e) es fs
 
--- the place behind events is that of the circuit that they make
+-- the place after events is that of the circuit that they make
 pub place_of-built : (n : Net) (es : List Event) → place_of (built n es) ≡ past (place_of n) es
 unfolding built past after
 place_of-built n [] = refl
 place_of-built n (e ∷ es) = place_of-built (after n e) es
 
 -- events are met where the first of them and then the others are
-pub Meets-parts : (v : ℕ → Bool) (p : Place) (es fs : List Event) → Meets v p.next (es ++ fs) → Meets v p.next es × Meets v (past p es).next fs
+pub Meets-parts : (v : ℕ → Bool) (p : Place) (es fs : List Event) → Meets v p.next (es ++ fs) →
+    Meets v p.next es × Meets v (past p es).next fs
 unfolding Meets past
 Meets-parts v p [] fs h = (tt, h)
 Meets-parts v p (e ∷ es) fs h =
@@ -31,7 +33,8 @@ Meets-parts v p (e ∷ es) fs h =
     ((h.0, rest.0), rest.1)
 
 -- the other way round
-pub Meets-append : (v : ℕ → Bool) (p : Place) (es fs : List Event) → Meets v p.next es → Meets v (past p es).next fs → Meets v p.next (es ++ fs)
+pub Meets-append : (v : ℕ → Bool) (p : Place) (es fs : List Event) → Meets v p.next es → Meets v (past p es).next fs →
+    Meets v p.next (es ++ fs)
 unfolding Meets past
 Meets-append v p [] fs h k = k
 Meets-append v p (e ∷ es) fs h k = (h.0, Meets-append v (record p { next = p.next + makes e }) es fs h.1 k)
@@ -89,7 +92,8 @@ Means-bind {v = v} {m = m} f one two = record {
 }
 
 -- what follows from what a step means
-pub Means-weaker : {A : Type 0} {v : ℕ → Bool} {m : Step A} {P Q : A → Type 0} → Means v m P → ((a : A) → P a → Q a) → Means v m Q
+pub Means-weaker : {A : Type 0} {v : ℕ → Bool} {m : Step A} {P Q : A → Type 0} → Means v m P → ((a : A) → P a → Q a) →
+    Means v m Q
 Means-weaker {m = m} one more = record { holds = λ p t h. more (m p).value (one.holds p t h) }
 
 -- also where a fact rests on variable 0 being true
@@ -101,20 +105,26 @@ Means-ask : (v : ℕ → Bool) (e : Event) (P : ℕ → Type 0) →
     ((g : ℕ) → Holds v g e → P (2 * g)) → (IsTrue (v 0) → (l : ℕ) → folded e ≡ Some l → P l) → Means v (ask e) P
 unfolding ask Meets
 Means-ask v e P gate fold = record { holds = λ p t h. go p t (folded_in p.folding e) refl h } where
-  go : (p : Place) → IsTrue (v 0) → (o : Option ℕ) → folded_in p.folding e ≡ o → Meets v p.next (made_or o e p.next).events → P (made_or o e p.next).value
+  go : (p : Place) → IsTrue (v 0) → (o : Option ℕ) → folded_in p.folding e ≡ o →
+      Meets v p.next (made_or o e p.next).events →
+      P (made_or o e p.next).value
   go p t None q m = gate p.next m.0
   go p t (Some l) q m = fold t l (folded_from p.folding e l q)
 
 -- the three gates
-pub Means-and : (v : ℕ → Bool) (a b : ℕ) → Means v (ask (And a b)) (λ l. literal_value v l ≡ (literal_value v a && literal_value v b))
+pub Means-and : (v : ℕ → Bool) (a b : ℕ) →
+    Means v (ask (And a b)) (λ l. literal_value v l ≡ (literal_value v a && literal_value v b))
 Means-and v a b = Means-ask v (And a b) _ (λ g h. literal_value-even v g ∙ h) (λ t l e. value-and v t a b l e)
 
 -- an exclusive or has the exclusive or of the values
-pub Means-xor : (v : ℕ → Bool) (a b : ℕ) → Means v (ask (Xor a b)) (λ l. literal_value v l ≡ not (beq (literal_value v a) (literal_value v b)))
+pub Means-xor : (v : ℕ → Bool) (a b : ℕ) →
+    Means v (ask (Xor a b)) (λ l. literal_value v l ≡ not (beq (literal_value v a) (literal_value v b)))
 Means-xor v a b = Means-ask v (Xor a b) _ (λ g h. literal_value-even v g ∙ h) (λ t l e. value-xor v t a b l e)
 
 -- a choice has the value that the choosing literal picks
-pub Means-mux : (v : ℕ → Bool) (c a b : ℕ) → Means v (ask (Mux c a b)) (λ l. literal_value v l ≡ cond (literal_value v c) (literal_value v a) (literal_value v b))
+pub Means-mux : (v : ℕ → Bool) (c a b : ℕ) →
+    Means v (ask (Mux c a b))
+    (λ l. literal_value v l ≡ cond (literal_value v c) (literal_value v a) (literal_value v b))
 Means-mux v c a b = Means-ask v (Mux c a b) _ (λ g h. literal_value-even v g ∙ h) (λ t l e. value-mux v t c a b l e)
 
 -- what a step means, of the call that followed it

@@ -1,5 +1,6 @@
 -- Each choice of the inputs' literals extends to truth values that the gates have.
-use Rattle.std.proofs.Common.{◌≡◌, ℕ, ◌+◌, ◌%◌, ◌<◌, Bool, true, false, not, cond, eqb, List, [], ◌∷◌, ◌&&◌, refl, ◌∙◌, ap, arith, add-zero}
+use Rattle.std.proofs.Common.{◌≡◌, ℕ, ◌+◌, ◌%◌, ◌<◌, Bool, true, false, not, cond, eqb, List, [], ◌∷◌, ◌&&◌, refl, ◌∙◌}
+use Rattle.std.proofs.Common.{ap, arith, add-zero}
 use Rattle.std.specs.Prelude.{IsTrue}
 use Rattle.std.specs.Bool.{beq}
 use Rattle.std.proofs.lemmas.Bool.{eq-eqb, ne_eqb}
@@ -7,7 +8,8 @@ use Rattle.std.proofs.lemmas.List.Elements.{All-nil, All-cons}
 use Rattle.am_lit.specs.Literal.{variable_of}
 use Rattle.am_lit.specs.Truth.{literal_value, AllHold}
 use Rattle.am_lit.specs.UnitRow.{IsChoice}
-use Rattle.am_gate.specs.Circuit.{Event, Event.Input, Event.And, Event.Xor, Event.Mux, Event.Clause, AreScoped, inputs_of}
+use Rattle.am_gate.specs.Circuit.{Event, Event.Input, Event.And, Event.Xor, Event.Mux, Event.Clause, AreScoped}
+use Rattle.am_gate.specs.Circuit.{inputs_of}
 use Rattle.am_gate.specs.Value.{Meets}
 use Rattle.am_gate.proofs.Normals.{first, others}
 
@@ -37,7 +39,8 @@ pub record Extended (v : ℕ → Bool) (g : ℕ) (es : List Event) (literals : L
   pub given : AllHold values literals
   pub gates : Meets values g (gates_of es)
 
-literal_value-agree : (v w : ℕ → Bool) (l : ℕ) → w (variable_of l) ≡ v (variable_of l) → literal_value w l ≡ literal_value v l
+literal_value-agree : (v w : ℕ → Bool) (l : ℕ) → w (variable_of l) ≡ v (variable_of l)
+    → literal_value w l ≡ literal_value v l
 literal_value-agree v w l e = rw e refl
 
 -- a literal is true where its variable has the literal's sign
@@ -45,7 +48,8 @@ true_by : (w : ℕ → Bool) (l : ℕ) (b : Bool) → eqb (l % 2) 0 ≡ b → w 
 true_by w l true e h = rw (e, h) refl
 true_by w l false e h = rw (e, h) refl
 
-module _ (v : ℕ → Bool) (g : ℕ) (b : Bool) (es : List Event) (literals : List ℕ) (r : Extended (put v g b) (g + 1) es literals) where
+module _ (v : ℕ → Bool) (g : ℕ) (b : Bool) (es : List Event) (literals : List ℕ)
+    (r : Extended (put v g b) (g + 1) es literals) where
   at_gate : r.values g ≡ b
   at_gate = r.below g (omega arith) ∙ put-same v g b
 
@@ -66,16 +70,20 @@ tail_of [] = []
 tail_of (x ∷ xs) = xs
 
 -- the values of the inputs extend to values that all gates meet
-pub extended : (v : ℕ → Bool) (g : ℕ) (es : List Event) (literals : List ℕ) → AreScoped g es → IsChoice (inputs_of g es) literals → Extended v g es literals
+pub extended : (v : ℕ → Bool) (g : ℕ) (es : List Event) (literals : List ℕ) → AreScoped g es
+    → IsChoice (inputs_of g es) literals
+    → Extended v g es literals
 unfolding Meets
-extended v g [] [] s c = record { values = v; below = λ x l. refl; given = All-nil (λ l. IsTrue (literal_value v l)); gates = tt }
+extended v g [] [] s c =
+    record { values = v; below = λ x l. refl; given = All-nil (λ l. IsTrue (literal_value v l)); gates = tt }
 extended v g [] (l ∷ ls) s c = absurd (cc c)
 extended v g (Input ∷ es) [] s c = absurd (cc c)
 extended v g (Input ∷ es) (l ∷ ls) s c =
     let b : Bool = eqb (l % 2) 0 in
     let here : variable_of l ≡ g = ap (head_or g) c in
     let r = extended (put v g b) (g + 1) es ls s.1 (ap tail_of c) in
-    let true_here : literal_value r.values l ≡ true = true_by r.values l b refl (ap r.values here ∙ at_gate v g b es ls r) in
+    let true_here : literal_value r.values l ≡ true =
+    true_by r.values l b refl (ap r.values here ∙ at_gate v g b es ls r) in
     record {
       values = r.values;
       below = below_gate v g b es ls r;
@@ -90,13 +98,23 @@ extended v g (And a b ∷ es) ls s c =
     let r = extended (put v g value) (g + 1) es ls s.1 c in
     let one = same_literal v g value es ls r a (first g a (b ∷ []) s.0) in
     let two = same_literal v g value es ls r b (first g b [] (others g a (b ∷ []) s.0)) in
-    record { values = r.values; below = below_gate v g value es ls r; given = r.given; gates = (rw (one, two) (at_gate v g value es ls r), r.gates) }
+    record {
+      values = r.values;
+      below = below_gate v g value es ls r;
+      given = r.given;
+      gates = (rw (one, two) (at_gate v g value es ls r), r.gates);
+    }
 extended v g (Xor a b ∷ es) ls s c =
     let value : Bool = not (beq (literal_value v a) (literal_value v b)) in
     let r = extended (put v g value) (g + 1) es ls s.1 c in
     let one = same_literal v g value es ls r a (first g a (b ∷ []) s.0) in
     let two = same_literal v g value es ls r b (first g b [] (others g a (b ∷ []) s.0)) in
-    record { values = r.values; below = below_gate v g value es ls r; given = r.given; gates = (rw (one, two) (at_gate v g value es ls r), r.gates) }
+    record {
+      values = r.values;
+      below = below_gate v g value es ls r;
+      given = r.given;
+      gates = (rw (one, two) (at_gate v g value es ls r), r.gates);
+    }
 extended v g (Mux c a b ∷ es) ls s choice =
     let value : Bool = cond (literal_value v c) (literal_value v a) (literal_value v b) in
     let r = extended (put v g value) (g + 1) es ls s.1 choice in
@@ -104,4 +122,9 @@ extended v g (Mux c a b ∷ es) ls s choice =
     let zero' = same_literal v g value es ls r c (first g c (a ∷ b ∷ []) s.0) in
     let one = same_literal v g value es ls r a (first g a (b ∷ []) rest) in
     let two = same_literal v g value es ls r b (first g b [] (others g a (b ∷ []) rest)) in
-    record { values = r.values; below = below_gate v g value es ls r; given = r.given; gates = (rw (zero', one, two) (at_gate v g value es ls r), r.gates) }
+    record {
+      values = r.values;
+      below = below_gate v g value es ls r;
+      given = r.given;
+      gates = (rw (zero', one, two) (at_gate v g value es ls r), r.gates);
+    }

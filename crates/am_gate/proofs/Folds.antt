@@ -1,5 +1,6 @@
 -- A literal that stands for a gate has the gate's value, and is one of an earlier variable.
-use Rattle.std.proofs.Common.{◌≡◌, ℕ, Bool, true, false, not, cond, Option, None, Some, ◌&&◌, ◌||◌, refl, sym, ◌∙◌, ap, subst, arith}
+use Rattle.std.proofs.Common.{◌≡◌, ℕ, Bool, true, false, not, cond, Option, None, Some, ◌&&◌, ◌||◌, refl, sym, ◌∙◌, ap}
+use Rattle.std.proofs.Common.{subst, arith}
 use Rattle.std.specs.Prelude.{IsTrue, ◌==◌}
 use Rattle.std.specs.Bool.{beq}
 use Rattle.std.proofs.lemmas.Bool.Decides.{nat_tests}
@@ -66,11 +67,13 @@ module _ (v : ℕ → Bool) (t : IsTrue (v 0)) where
   -- a folded conjunction has the conjunction of the values
   pub value-and : (a b l : ℕ) → folded (And a b) ≡ Some l → literal_value v l ≡ (literal_value v a && literal_value v b)
   value-and a b l e =
-      line P _ falsity _ l e (λ h. either a b (P falsity) h (λ f. rw (f, off) refl) (λ f. rw (f, off) (sym (and-false (literal_value v a)))))
+      line P _ falsity _ l e (λ h. either a b (P falsity) h (λ f. rw (f, off) refl)
+      (λ f. rw (f, off) (sym (and-false (literal_value v a)))))
       (λ e. line P _ b _ l e (λ h. rw (equal a 0 h, on) refl)
       (λ e. line P _ a _ l e (λ h. rw (equal b 0 h, on) (sym (and-true (literal_value v a))))
       (λ e. line P _ a _ l e (λ h. rw (equal a b h) (sym (and-same (literal_value v b))))
-      (λ e. line P _ falsity _ l e (λ h. rw (equal a (opposite_of b) h, literal_value-opposite_of v b, off) (sym (and-not (literal_value v b))))
+      (λ e. line P _ falsity _ l e
+      (λ h. rw (equal a (opposite_of b) h, literal_value-opposite_of v b, off) (sym (and-not (literal_value v b))))
       (λ e. none P l e)))))
     where
       P : ℕ → Type 0
@@ -101,14 +104,18 @@ module _ (v : ℕ → Bool) (t : IsTrue (v 0)) where
   differ-not false = refl
 
   -- a folded exclusive or has the exclusive or of the values
-  pub value-xor : (a b l : ℕ) → folded (Xor a b) ≡ Some l → literal_value v l ≡ not (beq (literal_value v a) (literal_value v b))
+  pub value-xor : (a b l : ℕ) → folded (Xor a b) ≡ Some l →
+      literal_value v l ≡ not (beq (literal_value v a) (literal_value v b))
   value-xor a b l e =
       line P _ b _ l e (λ h. rw (equal a 1 h, off) (sym (false-differ (literal_value v b))))
       (λ e. line P _ a _ l e (λ h. rw (equal b 1 h, off) (sym (differ-false (literal_value v a))))
-      (λ e. line P _ (opposite_of b) _ l e (λ h. rw (equal a 0 h, on, literal_value-opposite_of v b) (sym (true-differ (literal_value v b))))
-      (λ e. line P _ (opposite_of a) _ l e (λ h. rw (equal b 0 h, on, literal_value-opposite_of v a) (sym (differ-true (literal_value v a))))
+      (λ e. line P _ (opposite_of b) _ l e
+      (λ h. rw (equal a 0 h, on, literal_value-opposite_of v b) (sym (true-differ (literal_value v b))))
+      (λ e. line P _ (opposite_of a) _ l e
+      (λ h. rw (equal b 0 h, on, literal_value-opposite_of v a) (sym (differ-true (literal_value v a))))
       (λ e. line P _ falsity _ l e (λ h. rw (equal a b h, off) (sym (differ-same (literal_value v b))))
-      (λ e. line P _ truth _ l e (λ h. rw (equal a (opposite_of b) h, literal_value-opposite_of v b, on) (sym (differ-not (literal_value v b))))
+      (λ e. line P _ truth _ l e (λ h. rw (equal a (opposite_of b) h, literal_value-opposite_of v b, on)
+      (sym (differ-not (literal_value v b))))
       (λ e. none P l e))))))
     where
       P : ℕ → Type 0
@@ -127,13 +134,19 @@ module _ (v : ℕ → Bool) (t : IsTrue (v 0)) where
   choose-off false = refl
 
   -- a folded choice has the value that is picked
-  pub value-mux : (c a b l : ℕ) → folded (Mux c a b) ≡ Some l → literal_value v l ≡ cond (literal_value v c) (literal_value v a) (literal_value v b)
+  pub value-mux : (c a b l : ℕ) → folded (Mux c a b) ≡ Some l →
+      literal_value v l ≡ cond (literal_value v c) (literal_value v a) (literal_value v b)
   value-mux c a b l e =
       line P _ a _ l e (λ h. rw (equal c 0 h, on) refl)
       (λ e. line P _ b _ l e (λ h. rw (equal c 1 h, off) refl)
       (λ e. line P _ a _ l e (λ h. rw (equal a b h) (sym (choose-same (literal_value v c) (literal_value v b))))
-      (λ e. line P _ c _ l e (λ h. let k = both (a == 0) (b == 1) h in rw (equal a 0 k.0, equal b 1 k.1, on) (sym (choose-on (literal_value v c))))
-      (λ e. line P _ (opposite_of c) _ l e (λ h. let k = both (a == 1) (b == 0) h in rw (equal a 1 k.0, equal b 0 k.1, on, literal_value-opposite_of v c) (sym (choose-off (literal_value v c))))
+      (λ e. line P _ c _ l e (λ h.
+      let k = both (a == 0) (b == 1) h in
+      rw (equal a 0 k.0, equal b 1 k.1, on) (sym (choose-on (literal_value v c))))
+      (λ e. line P _ (opposite_of c) _ l e (λ h.
+      let k = both (a == 1) (b == 0) h in
+      rw (equal a 1 k.0, equal b 0 k.1, on, literal_value-opposite_of v c)
+      (sym (choose-off (literal_value v c))))
       (λ e. none P l e)))))
     where
       P : ℕ → Type 0
@@ -169,7 +182,8 @@ within-xor n a b l ha hb e =
     P m = IsLiteral n m
 
 -- a folded choice is one of the circuit's literals
-pub within-mux : (n c a b l : ℕ) → IsLiteral n c → IsLiteral n a → IsLiteral n b → folded (Mux c a b) ≡ Some l → IsLiteral n l
+pub within-mux : (n c a b l : ℕ) → IsLiteral n c → IsLiteral n a → IsLiteral n b → folded (Mux c a b) ≡ Some l →
+    IsLiteral n l
 within-mux n c a b l hc ha hb e =
     line P (c == truth) a _ l e (λ h. ha)
     (λ e. line P (c == falsity) b _ l e (λ h. hb)

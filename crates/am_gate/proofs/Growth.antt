@@ -1,5 +1,6 @@
 -- How circuits grow.
-use Rattle.std.proofs.Common.{ℕ, ◌+◌, ◌*◌, ◌≤◌, List, [], ◌∷◌, ◌++◌, All, arith, sym, ◌∙◌, ap, refl, subst, append_assoc, append-nil}
+use Rattle.std.proofs.Common.{ℕ, ◌+◌, ◌*◌, ◌≤◌, List, [], ◌∷◌, ◌++◌, All, arith, sym, ◌∙◌, ap, refl, subst}
+use Rattle.std.proofs.Common.{append_assoc, append-nil}
 use Rattle.std.specs.List.{flat_map}
 use Rattle.am_gate.specs.Circuit.{Net, IsLiteral, Grows, HasRoom, Begins, Event, built, after, added, clauses_of}
 use Rattle.am_gate.specs.Build.{Step, Follows, place_of}
@@ -18,7 +19,8 @@ Grows-trans m one two e = record {
 
 -- the room that is left
 pub HasRoom-grown : {j m : ℕ} {a b : Net} (k : ℕ) → Grows j a b → HasRoom m a → j + k ≤ m → HasRoom k b
-HasRoom-grown k one room e = record { vars = omega (arith, one.vars, room.vars); clauses = omega (arith, one.clauses, room.clauses) }
+HasRoom-grown k one room e =
+    record { vars = omega (arith, one.vars, room.vars); clauses = omega (arith, one.clauses, room.clauses) }
 
 -- a literal stays one
 pub IsLiteral-grown : {k : ℕ} {a b : Net} (l : ℕ) → Grows k a b → IsLiteral a.vars l → IsLiteral b.vars l
@@ -37,7 +39,10 @@ pub Begins-trans : {a b c : Net} → Begins a b → Begins b c → Begins a c
 Begins-trans {a} p q = record {
   folding = q.folding ∙ p.folding;
   vars = omega (arith, p.vars, q.vars);
-  clauses = (p.clauses.0 ++ q.clauses.0, q.clauses.1 ∙ ap (λ t. t ++ q.clauses.0) p.clauses.1 ∙ append_assoc a.clauses p.clauses.0 q.clauses.0);
+  clauses = (
+    p.clauses.0 ++ q.clauses.0,
+    q.clauses.1 ∙ ap (λ t. t ++ q.clauses.0) p.clauses.1 ∙ append_assoc a.clauses p.clauses.0 q.clauses.0,
+  );
 }
 
 -- events leave what was there
@@ -45,7 +50,9 @@ pub Begins-built : (n : Net) (es : List Event) → Begins n (built n es)
 unfolding built after
 Begins-built n [] = Begins-same n
 Begins-built n (e ∷ es) =
-    Begins-trans {b = after n e} (record { folding = refl; vars = omega arith; clauses = (flat_map added (clauses_of (2 * n.vars) e), refl) }) (Begins-built (after n e) es)
+    Begins-trans {b = after n e}
+    (record { folding = refl; vars = omega arith; clauses = (flat_map added (clauses_of (2 * n.vars) e), refl) })
+    (Begins-built (after n e) es)
 
 -- a call that follows a step
 pub Follows-Begins : {A : Type 0} {m : Step A} {old : Net} {r : A} {new : Net} → Follows m old r new → Begins old new

@@ -1,5 +1,6 @@
 -- Rules of steps that make gates, and how many.
-use Rattle.std.proofs.Common.{ℕ, ◌≡◌, ◌+◌, ◌<◌, ◌≤◌, Bool, false, Option, None, Some, [], ◌∷◌, All, refl, ◌∙◌, ap, arith, subst}
+use Rattle.std.proofs.Common.{ℕ, ◌≡◌, ◌+◌, ◌<◌, ◌≤◌, Bool, false, Option, None, Some, [], ◌∷◌, All, refl, ◌∙◌, ap}
+use Rattle.std.proofs.Common.{arith, subst}
 use Rattle.am_gate.specs.Circuit.{Event, Event.And, Event.Xor, Event.Mux, Net, IsLiteral, makes, AreScoped, literals_of}
 use Rattle.am_gate.specs.Folding.{folded, folded_in}
 use Rattle.am_gate.specs.Build.{Step, Place, place_of, past, ◌>>=◌, answer, made_or, ask, Follows, AreGates}
@@ -28,7 +29,8 @@ Counts-trans j k n p q r e one two = record {
 }
 
 -- j gates, and then k more
-pub Makes-bind : {A B : Type 0} {m : Step A} {p : Place} {j n : ℕ} {P : ℕ → A → Type 0} {Q : ℕ → B → Type 0} (f : A → Step B) (k : ℕ) →
+pub Makes-bind : {A B : Type 0} {m : Step A} {p : Place} {j n : ℕ} {P : ℕ → A → Type 0} {Q : ℕ → B → Type 0}
+    (f : A → Step B) (k : ℕ) →
     MakesGates m j P p → j + k ≡ n →
     ((a : A) (q : Place) → p.next ≤ q.next → P q.next a → MakesGates (f a) k Q q) →
     MakesGates (m >>= f) n Q p
@@ -57,7 +59,8 @@ Makes-weaker {m = m} {p = p} one more = record {
 }
 
 -- the same where the number of gates is written in another way
-pub Makes-count : {A : Type 0} {m : Step A} {p : Place} {j k : ℕ} {Q : ℕ → A → Type 0} → MakesGates m j Q p → j ≡ k → MakesGates m k Q p
+pub Makes-count : {A : Type 0} {m : Step A} {p : Place} {j k : ℕ} {Q : ℕ → A → Type 0} → MakesGates m j Q p → j ≡ k →
+    MakesGates m k Q p
 Makes-count {m = m} {p = p} {Q = Q} h e = subst (λ n. MakesGates m n Q p) e h
 
 -- a gate, or a literal that stands for it
@@ -82,21 +85,26 @@ Makes-ask e p one gate below fold = record {
   counts None q = record { most = omega (arith, one); exact = λ f. omega (arith, one); folding = refl }
   counts (Some l) q = record { most = omega arith; exact = λ f. absurd (cc (rw f at q)); folding = refl }
 
-  given : (o : Option ℕ) → folded_in p.folding e ≡ o → IsLiteral (past p (made_or o e p.next).events).next (made_or o e p.next).value
+  given : (o : Option ℕ) → folded_in p.folding e ≡ o →
+      IsLiteral (past p (made_or o e p.next).events).next (made_or o e p.next).value
   given None q = omega (arith, one)
   given (Some l) q = fold l (folded_from p.folding e l q)
 
 -- the three gates
-pub Makes-and : (a b : ℕ) (p : Place) → IsLiteral p.next a → IsLiteral p.next b → MakesGates (ask (And a b)) 1 IsLiteral p
+pub Makes-and : (a b : ℕ) (p : Place) → IsLiteral p.next a → IsLiteral p.next b →
+    MakesGates (ask (And a b)) 1 IsLiteral p
 Makes-and a b p ha hb = Makes-ask (And a b) p refl tt (two p.next a b ha hb) (λ l e. within-and p.next a b l ha hb e)
 
 -- an exclusive or is at most one gate
-pub Makes-xor : (a b : ℕ) (p : Place) → IsLiteral p.next a → IsLiteral p.next b → MakesGates (ask (Xor a b)) 1 IsLiteral p
+pub Makes-xor : (a b : ℕ) (p : Place) → IsLiteral p.next a → IsLiteral p.next b →
+    MakesGates (ask (Xor a b)) 1 IsLiteral p
 Makes-xor a b p ha hb = Makes-ask (Xor a b) p refl tt (two p.next a b ha hb) (λ l e. within-xor p.next a b l ha hb e)
 
 -- a choice is at most one gate
-pub Makes-mux : (c a b : ℕ) (p : Place) → IsLiteral p.next c → IsLiteral p.next a → IsLiteral p.next b → MakesGates (ask (Mux c a b)) 1 IsLiteral p
-Makes-mux c a b p hc ha hb = Makes-ask (Mux c a b) p refl tt (three p.next c a b hc ha hb) (λ l e. within-mux p.next c a b l hc ha hb e)
+pub Makes-mux : (c a b : ℕ) (p : Place) → IsLiteral p.next c → IsLiteral p.next a → IsLiteral p.next b →
+    MakesGates (ask (Mux c a b)) 1 IsLiteral p
+Makes-mux c a b p hc ha hb =
+    Makes-ask (Mux c a b) p refl tt (three p.next c a b hc ha hb) (λ l e. within-mux p.next c a b l hc ha hb e)
 
 -- a call that follows a step makes exactly so many variables in a circuit that doesn't fold
 pub Makes-exactly : {A : Type 0} {m : Step A} {k : ℕ} {Q : ℕ → A → Type 0} {old new : Net} {r : A} →
@@ -105,6 +113,7 @@ Makes-exactly {m = m} {old = old} plain s f =
     ap (λ n. n.vars) f.circuit ∙ ap (λ p. p.next) (place_of-built old (m (place_of old)).events) ∙ s.counts.exact plain
 
 -- truth values of the variables so far extend to such that meet the gates
-pub Makes-extend : {A : Type 0} {m : Step A} {k : ℕ} {Q : ℕ → A → Type 0} {p : Place} (v : ℕ → Bool) → MakesGates m k Q p →
+pub Makes-extend : {A : Type 0} {m : Step A} {k : ℕ} {Q : ℕ → A → Type 0} {p : Place} (v : ℕ → Bool) →
+    MakesGates m k Q p →
     (w : ℕ → Bool) × ((x : ℕ) → x < p.next → w x ≡ v x) × Meets w p.next (m p).events
 Makes-extend {m = m} {p = p} v s = gates_extend v p.next (m p).events s.scoped s.gates

@@ -1,5 +1,6 @@
 -- The clauses of a circuit hold exactly where its gates have their values and its forced clauses hold.
-use Rattle.std.proofs.Common.{◌≡◌, ℕ, ◌+◌, ◌*◌, ◌/◌, ◌%◌, Bool, true, false, not, cond, List, [], ◌∷◌, ◌||◌, ◌&&◌, refl, sym, ◌∙◌, ap, arith}
+use Rattle.std.proofs.Common.{◌≡◌, ℕ, ◌+◌, ◌*◌, ◌/◌, ◌%◌, Bool, true, false, not, cond, List, [], ◌∷◌, ◌||◌, ◌&&◌, refl}
+use Rattle.std.proofs.Common.{sym, ◌∙◌, ap, arith}
 use Rattle.std.specs.Prelude.{Contains, ◌↔◌, IsTrue}
 use Rattle.std.specs.Bool.{beq}
 use Rattle.std.specs.List.{list_all, flat_map}
@@ -10,9 +11,9 @@ use Rattle.std.proofs.lemmas.List.Sums.{AllPass-from_list_all, list_all-from_All
 use Rattle.am_lit.specs.Clause.{sorted_literals}
 use Rattle.am_lit.specs.Literal.{opposite_of}
 use Rattle.am_lit.specs.Truth.{literal_value, clause_value, Satisfies}
-use Rattle.am_lit.proofs.Laws.{clause_value-sorted_literals}
-use Rattle.am_lit.proofs.Laws.{literal_value-opposite_of}
-use Rattle.am_gate.specs.Circuit.{Event, Event.Input, Event.And, Event.Xor, Event.Mux, Event.Clause, Net, clauses_of, is_tautology, added, after, built, start}
+use Rattle.am_lit.proofs.Laws.{clause_value-sorted_literals, literal_value-opposite_of}
+use Rattle.am_gate.specs.Circuit.{Event, Event.Input, Event.And, Event.Xor, Event.Mux, Event.Clause, Net, clauses_of}
+use Rattle.am_gate.specs.Circuit.{is_tautology, added, after, built, start}
 use Rattle.am_gate.specs.Value.{Holds, Meets}
 use Rattle.am_gate.proofs.Sorting.{added_dropped, added_kept, tautology_parts}
 
@@ -40,7 +41,8 @@ module _ (v : ℕ → Bool) where
 
   true_tautology : (c : List ℕ) → is_tautology c ≡ true → clause_value v c ≡ true
   true_tautology c e = let pair = tautology_parts c e in go pair.0 pair.1 pair.2 (literal_value v pair.0) refl where
-    go : (l : ℕ) → Contains c l → Contains c (opposite_of l) → (b : Bool) → literal_value v l ≡ b → clause_value v c ≡ true
+    go : (l : ℕ) → Contains c l → Contains c (opposite_of l) → (b : Bool) → literal_value v l ≡ b
+        → clause_value v c ≡ true
     go l h k true t = true_clause c l h t
     go l h k false t = true_clause c (opposite_of l) k (literal_value-opposite_of v l ∙ ap not t)
 
@@ -67,22 +69,48 @@ module _ (v : ℕ → Bool) where
   all_hold-clauses_of : (g : ℕ) (e : Event) → all_hold (clauses_of (2 * g) e) ≡ holds g e
   all_hold-clauses_of g Input = refl
   all_hold-clauses_of g (And a b) =
-      rw (literal_value-opposite_of v (2 * g), literal_value-opposite_of v a, literal_value-opposite_of v b, literal_value-even v g)
+      rw (
+        literal_value-opposite_of v (2 * g),
+        literal_value-opposite_of v a,
+        literal_value-opposite_of v b,
+        literal_value-even v g,
+      )
       (bits (v g) (literal_value v a) (literal_value v b))
     where
-      bits : (x y z : Bool) → ((not x || (y || false)) && ((not x || (z || false)) && ((x || (not y || (not z || false))) && true))) ≡ beq x (y && z)
+      bits : (x y z : Bool)
+          → ((not x || (y || false)) && ((not x || (z || false)) && ((x || (not y || (not z || false))) && true)))
+          ≡ beq x (y && z)
       bits x y z = grind arith
   all_hold-clauses_of g (Xor a b) =
-      rw (literal_value-opposite_of v (2 * g), literal_value-opposite_of v a, literal_value-opposite_of v b, literal_value-even v g)
+      rw (
+        literal_value-opposite_of v (2 * g),
+        literal_value-opposite_of v a,
+        literal_value-opposite_of v b,
+        literal_value-even v g,
+      )
       (bits (v g) (literal_value v a) (literal_value v b))
     where
-      bits : (x y z : Bool) → ((not x || (y || (z || false))) && ((not x || (not y || (not z || false))) && ((x || (not y || (z || false))) && ((x || (y || (not z || false))) && true)))) ≡ beq x (not (beq y z))
+      bits : (x y z : Bool)
+          → ((not x || (y || (z || false)))
+          && ((not x || (not y || (not z || false)))
+          && ((x || (not y || (z || false))) && ((x || (y || (not z || false))) && true))))
+          ≡ beq x (not (beq y z))
       bits x y z = grind arith
   all_hold-clauses_of g (Mux c a b) =
-      rw (literal_value-opposite_of v (2 * g), literal_value-opposite_of v c, literal_value-opposite_of v a, literal_value-opposite_of v b, literal_value-even v g)
+      rw (
+        literal_value-opposite_of v (2 * g),
+        literal_value-opposite_of v c,
+        literal_value-opposite_of v a,
+        literal_value-opposite_of v b,
+        literal_value-even v g,
+      )
       (bits (v g) (literal_value v c) (literal_value v a) (literal_value v b))
     where
-      bits : (x w y z : Bool) → ((not w || (not y || (x || false))) && ((not w || (y || (not x || false))) && ((w || (not z || (x || false))) && ((w || (z || (not x || false))) && true)))) ≡ beq x (cond w y z)
+      bits : (x w y z : Bool)
+          → ((not w || (not y || (x || false)))
+          && ((not w || (y || (not x || false)))
+          && ((w || (not z || (x || false))) && ((w || (z || (not x || false))) && true))))
+          ≡ beq x (cond w y z)
       bits x w y z = grind arith
   all_hold-clauses_of g (Clause literals) = and-true (clause_value v literals)
 
@@ -112,7 +140,8 @@ module _ (v : ℕ → Bool) where
       list_all-append (clause_value v) n.clauses (flat_map added (clauses_of (2 * n.vars) e))
       ∙ rw (all_hold-flat_map (clauses_of (2 * n.vars) e), all_hold-clauses_of n.vars e) refl
 
-  built_from : (n : Net) (es : List Event) → all_hold (built n es).clauses ≡ true → (all_hold n.clauses ≡ true) × Meets v n.vars es
+  built_from : (n : Net) (es : List Event) → all_hold (built n es).clauses ≡ true
+      → (all_hold n.clauses ≡ true) × Meets v n.vars es
   unfolding built Meets after
   built_from n [] h = (h, tt)
   built_from n (e ∷ es) h =
@@ -120,7 +149,8 @@ module _ (v : ℕ → Bool) where
       let both = and_parts _ _ (sym (all_hold-after n e) ∙ rest.0) in
       (both.0, (Holds_from n.vars e both.1, rest.1))
 
-  built_to : (n : Net) (es : List Event) → all_hold n.clauses ≡ true → Meets v n.vars es → all_hold (built n es).clauses ≡ true
+  built_to : (n : Net) (es : List Event) → all_hold n.clauses ≡ true → Meets v n.vars es
+      → all_hold (built n es).clauses ≡ true
   unfolding built Meets after
   built_to n [] h m = h
   built_to n (e ∷ es) h m =
@@ -134,10 +164,14 @@ module _ (v : ℕ → Bool) where
   all_hold-start = and-true (v 0 || false) ∙ or-false (v 0)
 
   -- the clauses of a circuit that events made
-  pub Satisfies-built : (folding : Bool) (es : List Event) → Satisfies v (built (start folding) es).clauses ↔ (IsTrue (v 0) × Meets v 1 es)
+  pub Satisfies-built : (folding : Bool) (es : List Event)
+      → Satisfies v (built (start folding) es).clauses ↔ (IsTrue (v 0) × Meets v 1 es)
   Satisfies-built folding es = (
     (λ h.
-        let parts = built_from (start folding) es (list_all-from_AllPass (clause_value v) (built (start folding) es).clauses h) in
+        let parts =
+        built_from (start folding) es
+        (list_all-from_AllPass (clause_value v) (built (start folding) es).clauses h) in
         (sym all_hold-start ∙ parts.0, parts.1)),
-    (λ h. AllPass-from_list_all (clause_value v) (built (start folding) es).clauses (built_to (start folding) es (all_hold-start ∙ h.0) h.1)),
+    (λ h. AllPass-from_list_all (clause_value v) (built (start folding) es).clauses
+        (built_to (start folding) es (all_hold-start ∙ h.0) h.1)),
   )

@@ -1,13 +1,16 @@
 -- What a circuit adds is normal.
-use Rattle.std.proofs.Common.{◌≡◌, ℕ, ◌+◌, ◌*◌, ◌<◌, ◌≤◌, Bool, true, false, List, [], ◌∷◌, ◌++◌, All, refl, sym, ◌∙◌, arith, subst, get_or, inl, inr, add-zero}
+use Rattle.std.proofs.Common.{◌≡◌, ℕ, ◌+◌, ◌*◌, ◌<◌, ◌≤◌, Bool, true, false, List, [], ◌∷◌, ◌++◌, All, refl, sym, ◌∙◌}
+use Rattle.std.proofs.Common.{arith, subst, get_or, inl, inr, add-zero}
 use Rattle.std.specs.Prelude.{Contains}
 use Rattle.std.specs.List.{flat_map}
-use Rattle.std.proofs.lemmas.List.Elements.{All-nil, All-cons, All-head, All-tail, All-weaker, All-append, Contains-get_or}
+use Rattle.std.proofs.lemmas.List.Elements.{All-nil, All-cons, All-head, All-tail, All-weaker, All-append}
+use Rattle.std.proofs.lemmas.List.Elements.{Contains-get_or}
 use Rattle.std.proofs.lemmas.List.Kept.{AllPairs-from_increasing}
 use Rattle.am_lit.specs.Literal.{opposite_of, variable_of}
 use Rattle.am_lit.specs.Clause.{IsFormula, IsNormal, NoVariableTwice, sorted_literals}
 use Rattle.am_lit.proofs.Laws.{All-sorted_literals, IsStrictlyIncreasing-sorted_literals}
-use Rattle.am_gate.specs.Circuit.{Event, Event.Input, Event.And, Event.Xor, Event.Mux, Event.Clause, Net, IsCircuit, IsLiteral, clauses_of, literals_of, makes, is_tautology, added, start}
+use Rattle.am_gate.specs.Circuit.{Event, Event.Input, Event.And, Event.Xor, Event.Mux, Event.Clause, Net, IsCircuit}
+use Rattle.am_gate.specs.Circuit.{IsLiteral, clauses_of, literals_of, makes, is_tautology, added, start}
 use Rattle.am_lit.proofs.Laws.{opposite_parts, variable_of-opposite_of}
 use Rattle.am_gate.proofs.Sorting.{added_kept, added_dropped, tautology_from}
 
@@ -15,9 +18,15 @@ use Rattle.am_gate.proofs.Sorting.{added_kept, added_dropped, tautology_from}
 apart_in : (c : List ℕ) → is_tautology (sorted_literals c) ≡ false → NoVariableTwice (sorted_literals c)
 apart_in c e = λ i j d lt within same.
     let row = sorted_literals c in
-    let up : get_or row i d < get_or row j d = AllPairs-from_increasing row (IsStrictlyIncreasing-sorted_literals c) i j d lt within in
-    let next : get_or row j d ≡ opposite_of (get_or row i d) = elim (opposite_parts (get_or row i d)) [ inl p ↦ omega (arith, p.0, p.1) | inr p ↦ omega (arith, p.0, p.1) ] in
-    let clash : true ≡ false = sym (tautology_from row (get_or row i d) (Contains-get_or row i d (omega arith)) (subst (Contains row) next (Contains-get_or row j d within))) ∙ e in
+    let up : get_or row i d < get_or row j d =
+    AllPairs-from_increasing row (IsStrictlyIncreasing-sorted_literals c) i j d lt within in
+    let next : get_or row j d ≡ opposite_of (get_or row i d) = elim (opposite_parts (get_or row i d))
+    [ inl p ↦ omega (arith, p.0, p.1) | inr p ↦ omega (arith, p.0, p.1) ] in
+    let clash : true ≡ false =
+    sym
+    (tautology_from row (get_or row i d) (Contains-get_or row i d (omega arith))
+    (subst (Contains row) next (Contains-get_or row j d within)))
+    ∙ e in
     cc
 
 pub IsFormula-added : (n : ℕ) (c : List ℕ) → All (IsLiteral n) c → IsFormula (added c) n
@@ -86,7 +95,8 @@ clauses_below g (And a b) h =
       (
         (two (g + 1) (opposite_of (2 * g)) b (IsLiteral-opposite (g + 1) (2 * g) g') b'),
         (
-          (three (g + 1) (2 * g) (opposite_of a) (opposite_of b) g' (IsLiteral-opposite (g + 1) a a') (IsLiteral-opposite (g + 1) b b')),
+          (three (g + 1) (2 * g) (opposite_of a) (opposite_of b) g' (IsLiteral-opposite (g + 1) a a')
+              (IsLiteral-opposite (g + 1) b b')),
           tt,
         ),
       ),
@@ -98,7 +108,8 @@ clauses_below g (Xor a b) h =
     let down = IsLiteral-opposite (g + 1) (2 * g) g' in (
       (three (g + 1) (opposite_of (2 * g)) a b down a' b'),
       (
-        (three (g + 1) (opposite_of (2 * g)) (opposite_of a) (opposite_of b) down (IsLiteral-opposite (g + 1) a a') (IsLiteral-opposite (g + 1) b b')),
+        (three (g + 1) (opposite_of (2 * g)) (opposite_of a) (opposite_of b) down (IsLiteral-opposite (g + 1) a a')
+            (IsLiteral-opposite (g + 1) b b')),
         (
           (three (g + 1) (2 * g) (opposite_of a) b g' (IsLiteral-opposite (g + 1) a a') b'),
           (
@@ -114,7 +125,8 @@ clauses_below g (Mux c a b) h =
     let a' : variable_of a < g + 1 = omega (arith, first g a (b ∷ []) (others g c (a ∷ b ∷ []) h)) in
     let b' : variable_of b < g + 1 = omega (arith, first g b [] (others g a (b ∷ []) (others g c (a ∷ b ∷ []) h))) in
     let down = IsLiteral-opposite (g + 1) (2 * g) g' in (
-      (three (g + 1) (opposite_of c) (opposite_of a) (2 * g) (IsLiteral-opposite (g + 1) c c') (IsLiteral-opposite (g + 1) a a') g'),
+      (three (g + 1) (opposite_of c) (opposite_of a) (2 * g) (IsLiteral-opposite (g + 1) c c')
+          (IsLiteral-opposite (g + 1) a a') g'),
       (
         (three (g + 1) (opposite_of c) a (opposite_of (2 * g)) (IsLiteral-opposite (g + 1) c c') a' down),
         (
@@ -133,7 +145,8 @@ pub IsCircuit-after : (n : Net) (e : Event) → IsCircuit n → All (IsLiteral n
 IsCircuit-after n e h below = record {
   truth = omega (arith, h.truth);
   normal = All-append (IsNormal (n.vars + makes e)) n.clauses (flat_map added (clauses_of (2 * n.vars) e))
-      (All-weaker (IsNormal n.vars) (IsNormal (n.vars + makes e)) (λ c k. IsNormal-more n.vars (n.vars + makes e) c (omega arith) k) n.clauses h.normal)
+      (All-weaker (IsNormal n.vars) (IsNormal (n.vars + makes e))
+      (λ c k. IsNormal-more n.vars (n.vars + makes e) c (omega arith) k) n.clauses h.normal)
       (all_added (n.vars + makes e) (clauses_of (2 * n.vars) e) (clauses_below n.vars e below));
 }
 

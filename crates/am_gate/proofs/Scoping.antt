@@ -1,12 +1,14 @@
 -- Events over earlier variables.
 use Rattle.std.proofs.Common.{◌≡◌, ℕ, ◌+◌, ◌<◌, ◌≤◌, Bool, List, [], ◌∷◌, ◌++◌, length, refl, sym, ap, arith, subst}
-use Rattle.am_gate.specs.Circuit.{Event, Event.Input, Event.And, Event.Xor, Event.Mux, Event.Clause, Net, makes, after, built, AreScoped, inputs_of}
+use Rattle.am_gate.specs.Circuit.{Event, Event.Input, Event.And, Event.Xor, Event.Mux, Event.Clause, Net, makes, after}
+use Rattle.am_gate.specs.Circuit.{built, AreScoped, inputs_of}
 use Rattle.am_gate.specs.Value.{Meets}
 use Rattle.am_gate.specs.Build.{Place, past, AreGates}
 use Rattle.am_gate.proofs.Extends.{extended, gates_of}
 
 -- events over earlier variables, and then others
-pub AreScoped-append : (p : Place) (es fs : List Event) → AreScoped p.next es → AreScoped (past p es).next fs → AreScoped p.next (es ++ fs)
+pub AreScoped-append : (p : Place) (es fs : List Event) → AreScoped p.next es → AreScoped (past p es).next fs →
+    AreScoped p.next (es ++ fs)
 unfolding past
 AreScoped-append p [] fs s t = t
 AreScoped-append p (e ∷ es) fs s t = (s.0, AreScoped-append (record p { next = p.next + makes e }) es fs s.1 t)
@@ -20,7 +22,7 @@ AreGates-append (Xor a b ∷ es) fs s t = AreGates-append es fs s t
 AreGates-append (Mux c a b ∷ es) fs s t = AreGates-append es fs s t
 AreGates-append (Clause literals ∷ es) fs s t = absurd s
 
--- the place behind events, and then behind others
+-- the place after events, and then after others
 pub past-append : (p : Place) (es fs : List Event) → past p (es ++ fs) ≡ past (past p es) fs
 unfolding past
 past-append p [] fs = refl

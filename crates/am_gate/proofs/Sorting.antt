@@ -1,5 +1,6 @@
 -- Rows that are sorted by code and freed of repeats.
-use Rattle.std.proofs.Common.{ℕ, ◌≡◌, ◌+◌, ◌<◌, ◌≢◌, Bool, true, false, eqb, List, [], ◌∷◌, length, refl, sym, ap, ◌∙◌, subst, inl, inr, arith, get_or}
+use Rattle.std.proofs.Common.{ℕ, ◌≡◌, ◌+◌, ◌<◌, ◌≢◌, Bool, true, false, eqb, List, [], ◌∷◌, length, refl, sym, ap, ◌∙◌}
+use Rattle.std.proofs.Common.{subst, inl, inr, arith, get_or}
 use Rattle.std.specs.Prelude.{Contains, ◌↔◌}
 use Rattle.std.specs.List.{AllPairs, dedup, list_any}
 use Rattle.std.specs.List.Sorted.{IsStrictlyIncreasing, IsSorted, IsPermutation}
@@ -13,8 +14,8 @@ use Rattle.std.proofs.lemmas.List.Sorted.{Contains-permutation, IsPermutation-sy
 use Rattle.std.proofs.lemmas.Map.Keys.{IsStrictlyIncreasing-dedup}
 use Rattle.am_lit.specs.Clause.{sorted_literals}
 use Rattle.am_lit.specs.Literal.{opposite_of, variable_of}
-use Rattle.am_lit.proofs.Laws.{Contains-head, Contains-tail, Contains-nil, Contains-cons_cases, AllPairs-head, AllPairs-tail}
-use Rattle.am_lit.proofs.Laws.{Contains-sorted_literals, IsStrictlyIncreasing-sorted_literals}
+use Rattle.am_lit.proofs.Laws.{Contains-head, Contains-tail, Contains-nil, Contains-cons_cases, AllPairs-head}
+use Rattle.am_lit.proofs.Laws.{AllPairs-tail, Contains-sorted_literals, IsStrictlyIncreasing-sorted_literals}
 use Rattle.am_gate.specs.Circuit.{added, is_tautology}
 use Rattle.am_lit.proofs.Laws.{opposite_parts, variable_of-opposite_of}
 
@@ -55,13 +56,15 @@ same_rising (x ∷ xs) (y ∷ ys) p q h =
     )
 
 -- a sort and a removal of repeats give the literals in order
-pub sorted_by_sort : (literals xs ys : List ℕ) → IsPermutation literals xs → IsSorted nat_cmp xs → ys ≡ dedup eqb xs → ys ≡ sorted_literals literals
+pub sorted_by_sort : (literals xs ys : List ℕ) → IsPermutation literals xs → IsSorted nat_cmp xs → ys ≡ dedup eqb xs
+    → ys ≡ sorted_literals literals
 sorted_by_sort literals xs ys p s e =
     e ∙ same_rising (dedup eqb xs) (sorted_literals literals)
     (AllPairs-from_increasing (dedup eqb xs) (IsStrictlyIncreasing-dedup xs s))
     (AllPairs-from_increasing (sorted_literals literals) (IsStrictlyIncreasing-sorted_literals literals))
     (λ z. (
-      (λ h. (Contains-sorted_literals literals z).1 (Contains-permutation xs literals z (IsPermutation-sym literals xs p) (Contains-from_dedup eqb xs z h))),
+      (λ h. (Contains-sorted_literals literals z).1
+          (Contains-permutation xs literals z (IsPermutation-sym literals xs p) (Contains-from_dedup eqb xs z h))),
       (λ h. Contains-dedup_nat xs z (Contains-permutation literals xs z p ((Contains-sorted_literals literals z).0 h))),
     ))
 
@@ -92,11 +95,14 @@ module _ (c : List ℕ) (rises : IsStrictlyIncreasing c) where
   above i j lt within = AllPairs-from_increasing c rises i j 0 lt within
 
   -- literals next to one another of one variable
-  pub tautology_at : (k i x y : ℕ) → i ≡ k + 1 → i < length c → x ≡ get_or c k x → y ≡ get_or c i y → variable_of x ≡ variable_of y → is_tautology c ≡ true
+  pub tautology_at : (k i x y : ℕ) → i ≡ k + 1 → i < length c → x ≡ get_or c k x → y ≡ get_or c i y
+      → variable_of x ≡ variable_of y
+      → is_tautology c ≡ true
   tautology_at k i x y next lt at_x at_y same =
       let up : get_or c k x < get_or c i x = AllPairs-from_increasing c rises k i x (omega arith) lt in
       let other : get_or c i x ≡ get_or c i y = get_or_default c i x y lt in
-      let opposite : opposite_of x ≡ y = elim (opposite_parts x) [ inl p ↦ omega (arith, p.0, p.1) | inr p ↦ omega (arith, p.0, p.1) ] in
+      let opposite : opposite_of x ≡ y = elim (opposite_parts x)
+      [ inl p ↦ omega (arith, p.0, p.1) | inr p ↦ omega (arith, p.0, p.1) ] in
       tautology_from c x (k, omega arith, sym at_x) (i, lt, rw opposite (sym at_y))
 
   -- two literals of one variable stand next to one another
@@ -110,7 +116,8 @@ module _ (c : List ℕ) (rises : IsStrictlyIncreasing c) where
   ]
 
   -- where literals next to one another have different variables, no variable stands twice
-  pub no_tautology : ((k : ℕ) → k + 1 < length c → variable_of (get_or c k 0) ≢ variable_of (get_or c (k + 1) 0)) → is_tautology c ≡ false
+  pub no_tautology : ((k : ℕ) → k + 1 < length c → variable_of (get_or c k 0) ≢ variable_of (get_or c (k + 1) 0))
+      → is_tautology c ≡ false
   no_tautology apart = go (is_tautology c) refl where
     clash : (i j : ℕ) → i < j → j < length c → variable_of (get_or c i 0) ≡ variable_of (get_or c j 0) → ⊥
     clash i j lt within same =

@@ -16,14 +16,16 @@ pub record Made (A : Type 0) : Type 0 where
   pub value : A
   pub events : List Event
 
+-- a step gives a value and makes events, by the place where it begins
 abbrev pub Step : Type 0 → Type 0
 Step A = Place → Made A
 
--- the place behind events
+-- the place after events
 unfoldable pub past : Place → List Event → Place
 past p [] = p
 past p (e ∷ es) = past (record p { next = p.next + makes e }) es
 
+-- a step, and after it the step that its value leads to
 infixl 10 ◌>>=◌
 unfoldable pub ◌>>=◌ : {A B : Type 0} → Step A → (A → Step B) → Step B
 (m >>= f) p =
@@ -31,6 +33,7 @@ unfoldable pub ◌>>=◌ : {A B : Type 0} → Step A → (A → Step B) → Step
     let second = f first.value (past p first.events) in
     record { value = second.value; events = first.events ++ second.events }
 
+-- a value, without any event
 unfoldable pub answer : {A : Type 0} → A → Step A
 answer a p = record { value = a; events = [] }
 
@@ -47,6 +50,7 @@ ask e p = made_or (folded_in p.folding e) e p.next
 unfoldable pub tell : List ℕ → Step (Unit {0})
 tell literals p = record { value = tt; events = Clause literals ∷ [] }
 
+-- the place where the next step of a circuit begins
 abbrev pub place_of : Net → Place
 place_of n = record { next = n.vars; folding = n.folding }
 

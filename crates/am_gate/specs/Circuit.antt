@@ -61,6 +61,7 @@ pub record Net : Type 0 where
 abbrev pub truth : ℕ
 truth = 0
 
+-- the literal that is false
 abbrev pub falsity : ℕ
 falsity = 1
 

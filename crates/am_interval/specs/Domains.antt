@@ -24,8 +24,10 @@ interval_domain number top at_most = record {
   member_term = λ w. between_term at_most;
 }
 
+-- intervals in the order of unsigned numbers
 abbrev pub unsigned_intervals : Abstraction
 unsigned_intervals = interval_domain unsigned unsigned_top Ule
 
+-- intervals in the order of signed numbers
 abbrev pub signed_intervals : Abstraction
 signed_intervals = interval_domain signed signed_top Sle

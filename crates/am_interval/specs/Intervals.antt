@@ -10,12 +10,15 @@ use Rattle.am_domain.specs.Meaning.{Meaning}
 abbrev pub Reading : Type 0
 Reading = ℕ → ℕ → ℤ
 
+-- a word as itself
 abbrev pub unsigned : Reading
 unsigned w c = pos c
 
+-- the end that the interval begins with
 abbrev pub least : List ℕ → ℕ
 least a = slice_index a 0
 
+-- the end that the interval ends with
 abbrev pub greatest : List ℕ → ℕ
 greatest a = slice_index a 1
 
@@ -31,16 +34,19 @@ IsBetween number w a c = (number w (least a) ≤ℤ number w c) × (number w c �
 abbrev pub intervals : Reading → Meaning
 intervals number = record { fields = 2; Valid = IsInterval number; Member = IsBetween number }
 
--- the interval of all words, in unsigned and in signed order
+-- the interval of all words in unsigned order
 abbrev pub unsigned_top : ℕ → List ℕ
 unsigned_top w = 0 ∷ (2 ^ w - 1) ∷ []
 
+-- the interval of all words in signed order, from the least negative number to the greatest positive one
 abbrev pub signed_top : ℕ → List ℕ
 signed_top w = (2 ^ (w - 1)) ∷ (2 ^ (w - 1) - 1) ∷ []
 
+-- the second word where its number is below the first's, else the first
 abbrev pub lesser : Reading → ℕ → ℕ → ℕ → ℕ
 lesser number w c d = if int_lt (number w d) (number w c) then d else c
 
+-- the second word where its number is above the first's, else the first
 abbrev pub greater : Reading → ℕ → ℕ → ℕ → ℕ
 greater number w c d = if int_lt (number w c) (number w d) then d else c
 

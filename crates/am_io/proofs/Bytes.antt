@@ -1,5 +1,6 @@
 -- What calls in turn do to known bytes.
-use Rattle.std.proofs.Common.{◌≡◌, ℕ, ◌+◌, ◌-◌, ◌≤◌, List, ◌++◌, None, Some, sym, ap, ◌∙◌, length, take, drop, arith, length-append, length-take, length-drop, take-add, IfSome}
+use Rattle.std.proofs.Common.{◌≡◌, ℕ, ◌+◌, ◌-◌, ◌≤◌, List, ◌++◌, None, Some, sym, ap, ◌∙◌, length, take, drop, arith}
+use Rattle.std.proofs.Common.{length-append, length-take, length-drop, take-add, IfSome}
 use Rattle.std.proofs.lemmas.List.{take_all, take-append-le, take-append-drop, drop-drop}
 use Rattle.std.specs.declared.option.Option.{Option}
 use Rattle.std.specs.Io.KnownBytes.{Appends, Consumes}
@@ -17,6 +18,7 @@ pub Loses-more : (a b c : Option (List ℕ)) (xs ys : List ℕ) (n : ℕ) →
 Loses-more a b c xs ys n p q le =
     (xs ++ take n ys, Consumes-trans a b c xs (take n ys) p q, simp (length-append, length-take) (omega arith))
 
+-- xs, and then n bytes from the front of ys, are no more than m bytes lost where they are no more than m
 pub LosesAtMost-more : (a b c : Option (List ℕ)) (xs ys : List ℕ) (n m : ℕ) →
     Consumes a b xs → Consumes b c (take n ys) → n ≤ length ys → length xs + n ≤ m → LosesAtMost a c m
 LosesAtMost-more a b c xs ys n m p q le within =

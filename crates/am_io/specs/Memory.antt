@@ -22,10 +22,11 @@ pub record SinkState : Type 0 where
   pub calls : ℕ
   pub faults : ℕ
 
--- a source and a sink before their first call
+-- a source before its first call
 abbrev pub new_source : List ℕ → ℕ → List ℕ → SourceState
 new_source bytes step failing = record { left = bytes; step = step; failing = failing; calls = 0; faults = 0 }
 
+-- a sink before its first call
 abbrev pub new_sink : ℕ → ℕ → List ℕ → SinkState
 new_sink room step failing = record { taken = []; room = room; step = step; failing = failing; calls = 0; faults = 0 }
 
@@ -51,7 +52,7 @@ Finishes old new r = MatchResult r
     (λ _. new ≡ record old { calls = next_call old.calls })
     (λ _. new ≡ record old { calls = next_call old.calls; faults = old.faults + 1 })
 
--- how the check keeps these records
+-- how the check keeps a source
 abbrev pub source_code : Coded SourceState
 source_code = code_by (List ℕ × (ℕ × (List ℕ × (ℕ × ℕ))))
     (coded× (coded_list coded_ℕ) (coded× coded_ℕ (coded× (coded_list coded_ℕ) (coded× coded_ℕ coded_ℕ))))
@@ -59,6 +60,7 @@ source_code = code_by (List ℕ × (ℕ × (List ℕ × (ℕ × ℕ))))
     (λ p. record { left = p.0; step = p.1.0; failing = p.1.1.0; calls = p.1.1.1.0; faults = p.1.1.1.1 })
     (λ _. refl)
 
+-- how the check keeps a sink
 abbrev pub sink_code : Coded SinkState
 sink_code = code_by (List ℕ × (ℕ × (ℕ × (List ℕ × (ℕ × ℕ)))))
     (coded× (coded_list coded_ℕ)

@@ -61,7 +61,7 @@ pub trait Sink {
         ensures calls { calls self.new ≤ calls self.old + 1 }
         ensures finishes { finishes self.new ≤ finishes self.old };
 
-    /// Passes on what was taken, to whatever is behind the sink. It takes no bytes.
+    /// Passes on what was taken, to whatever lies beyond the sink. It takes no bytes.
     fn finish(&mut self) -> Result<(), Failed>
         requires { faults self.old < 2 ^ 64 - 1 }
         ensures bytes { Keeps (taken self.old) (taken self.new) }

@@ -1,8 +1,10 @@
 -- Unit rows: more clauses, what holds, and clauses that are new over them.
-use Rattle.std.proofs.Common.{ℕ, ◌≡◌, Bool, true, false, not, eqb, List, [], ◌∷◌, ◌++◌, All, map, refl, sym, ◌∙◌, inl, inr}
+use Rattle.std.proofs.Common.{ℕ, ◌≡◌, Bool, true, false, not, eqb, List, [], ◌∷◌, ◌++◌, All, map, refl, sym, ◌∙◌, inl}
+use Rattle.std.proofs.Common.{inr}
 use Rattle.std.specs.Prelude.{Contains, ◌≢◌, IsTrue}
 use Rattle.std.proofs.lemmas.Bool.{ne_eqb}
-use Rattle.std.proofs.lemmas.List.Elements.{All-nil, All-cons, All-head, All-tail, All-weaker, All-contains, All-contains_itself, Contains-append_left}
+use Rattle.std.proofs.lemmas.List.Elements.{All-nil, All-cons, All-head, All-tail, All-weaker, All-contains}
+use Rattle.std.proofs.lemmas.List.Elements.{All-contains_itself, Contains-append_left}
 use Rattle.am_lit.specs.Literal.{opposite_of}
 use Rattle.am_lit.specs.Truth.{literal_value, clause_value, AllHold, Satisfies}
 use Rattle.am_lit.specs.UnitRow.{IsForcedBy, IsUnitStep, IsUnitRow, MeetsConflict, IsNew, without}
@@ -10,7 +12,8 @@ use Rattle.am_lit.proofs.Members.{Contains-head, Contains-map, Contains-filter, 
 use Rattle.am_lit.proofs.Truths.{literal_value-opposite_of, true_literal}
 
 -- unit rows stay unit rows when clauses are added
-pub IsUnitRow-append : (clauses more : List (List ℕ)) (given row : List ℕ) → IsUnitRow clauses given row → IsUnitRow (clauses ++ more) given row
+pub IsUnitRow-append : (clauses more : List (List ℕ)) (given row : List ℕ) → IsUnitRow clauses given row
+    → IsUnitRow (clauses ++ more) given row
 IsUnitRow-append clauses more given [] u = tt
 IsUnitRow-append clauses more given (l ∷ row) u = (step u.0, IsUnitRow-append clauses more given row u.1) where
   step : IsUnitStep clauses given row l → IsUnitStep (clauses ++ more) given row l
@@ -18,9 +21,11 @@ IsUnitRow-append clauses more given (l ∷ row) u = (step u.0, IsUnitRow-append 
   step (inr f) = inr (f.0, Contains-append_left clauses more f.0 f.1, f.2)
 
 -- where a row holds, no literal does whose opposite is in the row
-false_in : (v : ℕ → Bool) (row : List ℕ) (m : ℕ) → AllHold v row → Contains row (opposite_of m) → ¬ (literal_value v m ≡ true)
+false_in : (v : ℕ → Bool) (row : List ℕ) (m : ℕ) → AllHold v row → Contains row (opposite_of m)
+    → ¬ (literal_value v m ≡ true)
 false_in v row m holds h t =
-    let opposite : literal_value v (opposite_of m) ≡ true = All-contains (λ l. IsTrue (literal_value v l)) row (opposite_of m) holds h in
+    let opposite : literal_value v (opposite_of m) ≡ true =
+    All-contains (λ l. IsTrue (literal_value v l)) row (opposite_of m) holds h in
     let other = literal_value-opposite_of v m in
     let untrue : not (literal_value v m) ≡ true = sym other ∙ opposite in
     let clash : false ≡ true = rw t at untrue in
@@ -28,12 +33,16 @@ false_in v row m holds h t =
 
 module _ (v : ℕ → Bool) (clauses : List (List ℕ)) (satisfied : Satisfies v clauses) where
   -- a forced literal holds where the row does
-  forced_holds : (row c : List ℕ) (l : ℕ) → AllHold v row → Contains clauses c → IsForcedBy row c l → literal_value v l ≡ true
+  forced_holds : (row c : List ℕ) (l : ℕ) → AllHold v row → Contains clauses c → IsForcedBy row c l
+      → literal_value v l ≡ true
   forced_holds row c l holds h f =
       let some = true_literal v c (All-contains (λ d. IsTrue (clause_value v d)) clauses c satisfied h) in
       elim (same_or some.0 l) [
         | inl e ↦ rw (← e) some.2
-        | inr ne ↦ absurd (false_in v row some.0 holds (All-contains (λ m. m ≢ l → Contains row (opposite_of m)) c some.0 f.1 some.1 ne) some.2)
+        | inr ne ↦
+            absurd
+            (false_in v row some.0 holds
+            (All-contains (λ m. m ≢ l → Contains row (opposite_of m)) c some.0 f.1 some.1 ne) some.2)
       ]
 
   -- the literals of a unit row hold where the given ones do
@@ -50,7 +59,8 @@ module _ (v : ℕ → Bool) (clauses : List (List ℕ)) (satisfied : Satisfies v
   pub no_conflict : (given row : List ℕ) → AllHold v given → IsUnitRow clauses given row → ¬ (MeetsConflict clauses row)
   no_conflict given row g u k =
       let some = true_literal v k.0 (All-contains (λ d. IsTrue (clause_value v d)) clauses k.0 satisfied k.1) in
-      false_in v row some.0 (AllHold-row given row g u) (All-contains (λ m. Contains row (opposite_of m)) k.0 some.0 k.2 some.1) some.2
+      false_in v row some.0 (AllHold-row given row g u)
+      (All-contains (λ m. Contains row (opposite_of m)) k.0 some.0 k.2 some.1) some.2
 
 -- given literals are a unit row
 pub given_row : (clauses : List (List ℕ)) (given row : List ℕ) → All (Contains given) row → IsUnitRow clauses given row
@@ -61,12 +71,18 @@ given_row clauses given (l ∷ row) h =
 -- an earlier clause that is a subset of c would force c's literal, or be a conflict
 pub no_subset : (clauses : List (List ℕ)) (c d : List ℕ) → IsNew clauses c → Contains clauses d → ¬ (All (Contains c) d)
 no_subset clauses c d n h sub = elim (member_or d l) [
-  | inl there ↦ (n.1.2 (l ∷ given) (inr (d, h, (there, All-weaker (Contains c) (λ m. m ≢ l → Contains given (opposite_of m)) false_given d sub)), here)).0 (Contains-head l given)
+  | inl there ↦
+      (n.1.2 (l ∷ given) (
+        inr (d, h, (there, All-weaker (Contains c) (λ m. m ≢ l → Contains given (opposite_of m)) false_given d sub)),
+        here,
+      )).0
+      (Contains-head l given)
   | inr absent ↦ (n.1.2 given here).1 (
     d,
     h,
     All-weaker (Contains d) (λ m. Contains given (opposite_of m))
-        (λ m k. false_given m (All-contains (Contains c) d m sub k) (λ e. absent (rw (← e) k))) d (All-contains_itself d),
+        (λ m k. false_given m (All-contains (Contains c) d m sub k) (λ e. absent (rw (← e) k))) d
+        (All-contains_itself d),
   )
 ] where
   l : ℕ
@@ -79,4 +95,5 @@ no_subset clauses c d n h sub = elim (member_or d l) [
   here = given_row clauses given given (All-contains_itself given)
 
   false_given : (m : ℕ) → Contains c m → m ≢ l → Contains given (opposite_of m)
-  false_given m k ne = Contains-map opposite_of (without l c) m (Contains-filter (λ q. not (eqb q l)) c m k (rw (ne_eqb m l ne) refl))
+  false_given m k ne =
+      Contains-map opposite_of (without l c) m (Contains-filter (λ q. not (eqb q l)) c m k (rw (ne_eqb m l ne) refl))

@@ -1,5 +1,6 @@
 -- True literals and true clauses.
-use Rattle.std.proofs.Common.{ℕ, ◌≡◌, ◌+◌, ◌-◌, ◌/◌, ◌%◌, Bool, true, false, not, cond, eqb, List, refl, arith, [], ◌∷◌, inl, inr, ◌||◌}
+use Rattle.std.proofs.Common.{ℕ, ◌≡◌, ◌+◌, ◌-◌, ◌/◌, ◌%◌, Bool, true, false, not, cond, eqb, List, refl, arith, [], ◌∷◌}
+use Rattle.std.proofs.Common.{inl, inr, ◌||◌}
 use Rattle.std.specs.Prelude.{Contains}
 use Rattle.std.proofs.lemmas.Bool.Decides.{nat_tests}
 use Rattle.std.proofs.lemmas.List.Folds.{Any-from_list_any}
@@ -7,7 +8,8 @@ use Rattle.am_lit.specs.Literal.{opposite_of}
 use Rattle.am_lit.proofs.Members.{Contains-nil, Contains-cons_cases}
 use Rattle.am_lit.specs.Truth.{literal_value, clause_value}
 
-opposite_by : (l : ℕ) → (b : Bool) → eqb (l % 2) 0 ≡ b → (v : ℕ → Bool) → literal_value v (cond b (l + 1) (l - 1)) ≡ not (cond b (v (l / 2)) (not (v (l / 2))))
+opposite_by : (l : ℕ) → (b : Bool) → eqb (l % 2) 0 ≡ b → (v : ℕ → Bool)
+    → literal_value v (cond b (l + 1) (l - 1)) ≡ not (cond b (v (l / 2)) (not (v (l / 2))))
 opposite_by l true e v =
     let even : l % 2 ≡ 0 = grind (arith, nat_tests) in
     let odd : (l + 1) % 2 ≡ 1 = omega arith in
@@ -27,11 +29,13 @@ pub literal_value-opposite_of : (v : ℕ → Bool) (l : ℕ) → literal_value v
 literal_value-opposite_of v l = opposite_by l (eqb (l % 2) 0) refl v
 
 -- a true clause has a true literal
-pub true_literal : (v : ℕ → Bool) (c : List ℕ) → clause_value v c ≡ true → (l : ℕ) × Contains c l × (literal_value v l ≡ true)
+pub true_literal : (v : ℕ → Bool) (c : List ℕ) → clause_value v c ≡ true
+    → (l : ℕ) × Contains c l × (literal_value v l ≡ true)
 true_literal v c h = let some = Any-from_list_any (literal_value v) c h in (some.1, (some.0, some.2, some.3), some.4)
 
 -- a clause with a true literal is true
-pub clause_holds : (v : ℕ → Bool) (c : List ℕ) (l : ℕ) → Contains c l → literal_value v l ≡ true → clause_value v c ≡ true
+pub clause_holds : (v : ℕ → Bool) (c : List ℕ) (l : ℕ) → Contains c l → literal_value v l ≡ true
+    → clause_value v c ≡ true
 clause_holds v [] l h t = absurd (Contains-nil l h)
 clause_holds v (m ∷ ms) l h t = elim (Contains-cons_cases m ms l h) [
   | inl e ↦ rw (e, t) refl

@@ -1,5 +1,7 @@
 -- The hull of the common words of two values, word by word of the walk.
-use Rattle.std.proofs.Common.{◌≡◌, ℕ, suc, ◌+◌, ◌-◌, ◌%◌, ◌^◌, ◌<◌, ◌≤◌, ◌↔◌, Bool, true, false, cond, IsTrue, List, [], ◌∷◌, ◌++◌, length, take, slice_index, get_or, refl, sym, ap, ◌∙◌, subst, arith, append-nil, MatchOption}
+use Rattle.std.proofs.Common.{◌≡◌, ℕ, suc, ◌+◌, ◌-◌, ◌%◌, ◌^◌, ◌<◌, ◌≤◌, ◌↔◌, Bool, true, false, cond, IsTrue, List, []}
+use Rattle.std.proofs.Common.{◌∷◌, ◌++◌, length, take, slice_index, get_or, refl, sym, ap, ◌∙◌, subst, arith}
+use Rattle.std.proofs.Common.{append-nil, MatchOption}
 use Rattle.std.specs.Prelude.{All, filter}
 use Rattle.std.specs.Option.{ForSome}
 use Rattle.std.specs.declared.option.Option.{Option}
@@ -56,7 +58,8 @@ steps-span w x first last span hf hl e =
     e ∙ ap (λ d. (d + (2 ^ w - first)) % 2 ^ w) hl ∙ ap (λ c. (slice_index x 1 + (2 ^ w - c)) % 2 ^ w) hf
 
 -- the first word of the walk
-pub first-word : (w : ℕ) (x : List ℕ) (c : ℕ) → c ≡ slice_index x 0 → slice_index x 0 < 2 ^ w → c ≡ (slice_index x 0 + 0) % 2 ^ w
+pub first-word : (w : ℕ) (x : List ℕ) (c : ℕ) → c ≡ slice_index x 0 → slice_index x 0 < 2 ^ w →
+    c ≡ (slice_index x 0 + 0) % 2 ^ w
 first-word w x c e below =
     let start : slice_index x 0 + 0 ≡ slice_index x 0 = omega arith in
     e ∙ sym (ap (λ n. n % 2 ^ w) start ∙ mod-eq_of_lt below)
@@ -95,34 +98,44 @@ module _ {b : Abstraction} {w : ℕ} {x y : List ℕ} (h : AreHulled b w x y) wh
   known [] below p e = cc
   known (c ∷ words) below p e =
       let same : c ∷ last_of c words ∷ join_of_words b w c words ≡ p = cc in
-      subst (IsHull b.meaning w) same (record { ends = omega arith; value = (join-has h.laws w h.width c words below).value })
+      subst (IsHull b.meaning w) same
+      (record { ends = omega arith; value = (join-has h.laws w h.width c words below).value })
 
+  -- a hull so far ends in a value of the second domain
   pub hull-known : (i : ℕ) (hull : Option (List ℕ)) → hull ≡ so_far i → ForSome hull (IsHull b.meaning w)
   hull-known i hull e =
       subst (λ o. ForSome o (IsHull b.meaning w)) (sym e)
-      (known _ (All-filter test (λ d. d < 2 ^ w) (take i (walk w x)) (All-take (λ d. d < 2 ^ w) i (walk w x) (All-walk w x h.walk))))
+      (known _
+      (All-filter test (λ d. d < 2 ^ w) (take i (walk w x))
+      (All-take (λ d. d < 2 ^ w) i (walk w x) (All-walk w x h.walk))))
 
   -- the word after one of the walk
-  pub next-word : (i c : ℕ) → c ≡ (slice_index x 0 + i) % 2 ^ w → (c + (2 ^ w - (2 ^ w - 1))) % 2 ^ w ≡ (slice_index x 0 + (i + 1)) % 2 ^ w
+  pub next-word : (i c : ℕ) → c ≡ (slice_index x 0 + i) % 2 ^ w →
+      (c + (2 ^ w - (2 ^ w - 1))) % 2 ^ w ≡ (slice_index x 0 + (i + 1)) % 2 ^ w
   next-word i c e =
       let one : c + (2 ^ w - (2 ^ w - 1)) ≡ c + 1 = omega (arith, pow_pos w) in
       let more : slice_index x 0 + i + 1 ≡ slice_index x 0 + (i + 1) = omega arith in
-      ap (λ n. n % 2 ^ w) one ∙ ap (λ d. (d + 1) % 2 ^ w) e ∙ mod-add-mod (slice_index x 0 + i) (2 ^ w) 1 ∙ ap (λ n. n % 2 ^ w) more
+      ap (λ n. n % 2 ^ w) one ∙ ap (λ d. (d + 1) % 2 ^ w) e ∙ mod-add-mod (slice_index x 0 + i) (2 ^ w) 1
+      ∙ ap (λ n. n % 2 ^ w) more
 
   one_more : (i c : ℕ) (t : Bool) → i < count → c ≡ (slice_index x 0 + i) % 2 ^ w → IsTrue t ↔ b.meaning.Member w y c →
       filter test (take (i + 1) (walk w x)) ≡ filter test (take i (walk w x)) ++ cond t (c ∷ []) []
   one_more i c t most at says =
       let reach : i < length (walk w x) = omega (arith, length-upwards w count (slice_index x 0), most) in
-      let here : get_or (walk w x) i 0 ≡ c = get_or-upwards w count (slice_index x 0) i 0 (h.walk.words 0) most ∙ sym at in
+      let here : get_or (walk w x) i 0 ≡ c =
+      get_or-upwards w count (slice_index x 0) i 0 (h.walk.words 0) most ∙ sym at in
       let below : c < 2 ^ w = rw at (mod-lt _ (pow_pos w)) in
-      let same : test c ≡ t = same_test (test c) t (b.meaning.Member w y c) (is_member-tells b h.laws.tells_membership w h.width y h.tuple c below) says in
+      let same : test c ≡ t = same_test (test c) t (b.meaning.Member w y c)
+      (is_member-tells b h.laws.tells_membership w h.width y h.tuple c below) says in
       filter_more test (walk w x) i 0 reach
       ∙ ap (λ d. filter test (take i (walk w x)) ++ cond (test d) (d ∷ []) []) here
       ∙ ap (λ s. filter test (take i (walk w x)) ++ cond s (c ∷ []) []) same
 
-  -- a common word joins the hull, and another word leaves it
-  pub hull-taken : (i c : ℕ) (t : Bool) (hull : Option (List ℕ)) (p : List ℕ) → i < count → c ≡ (slice_index x 0 + i) % 2 ^ w →
-      IsTrue t ↔ b.meaning.Member w y c → t ≡ true → hull ≡ so_far i → p ≡ hull_with b w hull c → Some p ≡ so_far (i + 1)
+  -- a common word joins the hull
+  pub hull-taken : (i c : ℕ) (t : Bool) (hull : Option (List ℕ)) (p : List ℕ) → i < count →
+      c ≡ (slice_index x 0 + i) % 2 ^ w →
+      IsTrue t ↔ b.meaning.Member w y c → t ≡ true → hull ≡ so_far i → p ≡ hull_with b w hull c →
+      Some p ≡ so_far (i + 1)
   hull-taken i c t hull p most at says holds before e =
       ap (λ p. Some p) e
       ∙ ap (λ o. Some (hull_with b w o c)) before
@@ -130,6 +143,7 @@ module _ {b : Abstraction} {w : ℕ} {x y : List ℕ} (h : AreHulled b w x y) wh
       ∙ ap (λ s. hull_of_words b w (filter test (take i (walk w x)) ++ cond s (c ∷ []) [])) (sym holds)
       ∙ ap (λ words. hull_of_words b w words) (sym (one_more i c t most at says))
 
+  -- a word that isn't common leaves the hull as it was
   pub hull-passed : (i c : ℕ) (t : Bool) (hull : Option (List ℕ)) → i < count → c ≡ (slice_index x 0 + i) % 2 ^ w →
       IsTrue t ↔ b.meaning.Member w y c → t ≡ false → hull ≡ so_far i → hull ≡ so_far (i + 1)
   hull-passed i c t hull most at says fails before =
@@ -141,4 +155,5 @@ module _ {b : Abstraction} {w : ℕ} {x y : List ℕ} (h : AreHulled b w x y) wh
   -- after the whole walk
   pub hull-whole : (i : ℕ) → count ≤ i → so_far i ≡ hull_of_words b w (common b w x y)
   hull-whole i most =
-      ap (λ words. hull_of_words b w (filter test words)) (take_all i (walk w x) (omega (arith, length-upwards w count (slice_index x 0), most)))
+      ap (λ words. hull_of_words b w (filter test words))
+      (take_all i (walk w x) (omega (arith, length-upwards w count (slice_index x 0), most)))

@@ -12,10 +12,11 @@ use Rattle.am_domain.specs.Meaning.{Meaning}
 use Rattle.am_domain.specs.Laws.{is_member}
 use Rattle.am_domain.specs.Walk.{walk}
 
--- the part of the first domain, and that of the second
+-- the part of the first domain
 abbrev pub first : List ℕ → List ℕ
 first p = take 2 p
 
+-- the part of the second domain
 abbrev pub second : List ℕ → List ℕ
 second p = drop 2 p
 

@@ -1,5 +1,6 @@
 -- Lists of different things are no longer than a list that has them all.
-use Rattle.std.proofs.Common.{◌≡◌, ◌≢◌, ℕ, suc, ◌<◌, ◌≤◌, ◌||◌, Bool, true, false, eqb, List, [], ◌∷◌, ◌++◌, length, map, get_or, refl, sym, ◌∙◌, ap, arith}
+use Rattle.std.proofs.Common.{◌≡◌, ◌≢◌, ℕ, suc, ◌<◌, ◌≤◌, ◌||◌, Bool, true, false, eqb, List, [], ◌∷◌, ◌++◌, length}
+use Rattle.std.proofs.Common.{map, get_or, refl, sym, ◌∙◌, ap, arith}
 use Rattle.std.specs.List.{All, AllByRecursion, Contains, IsDistinct, list_any}
 use Rattle.std.proofs.lemmas.Bool.{eqb-true}
 use Rattle.std.proofs.lemmas.List.{get_or_default}
@@ -19,7 +20,9 @@ AreDifferent [] = Unit {0}
 AreDifferent (x ∷ xs) = All (λ y. x ≢ y) xs × AreDifferent xs
 
 -- lists of different things that share nothing, put together
-pub different-append : {A : Type 0} (xs ys : List A) → AreDifferent xs → AreDifferent ys → All (λ x. All (λ y. x ≢ y) ys) xs → AreDifferent (xs ++ ys)
+pub different-append : {A : Type 0} (xs ys : List A) → AreDifferent xs → AreDifferent ys →
+    All (λ x. All (λ y. x ≢ y) ys) xs →
+    AreDifferent (xs ++ ys)
 different-append [] ys dx dy apart = dy
 different-append (x ∷ xs) ys dx dy apart = (
   All-append (λ y. x ≢ y) xs ys dx.0 (All-head (λ z. All (λ y. z ≢ y) ys) x xs apart),
@@ -36,14 +39,17 @@ module _ {A : Type 0} (ys : List A) where
   length-places [] within = refl
   length-places (x ∷ xs) within = ap suc (length-places xs (All-tail (Contains ys) x xs within))
 
-  below : (xs : List A) (within : All (Contains ys) xs) (q : ℕ) → list_any (eqb q) (places xs within) ≡ true → q < length ys
+  below : (xs : List A) (within : All (Contains ys) xs) (q : ℕ) → list_any (eqb q) (places xs within) ≡ true →
+      q < length ys
   below [] within q there = cc
   below (x ∷ xs) within q there =
       let here : Contains ys x = All-head (Contains ys) x xs within in
       let rest : All (Contains ys) xs = All-tail (Contains ys) x xs within in
-      go (eqb q here.0) (list_any (eqb q) (places xs rest)) (λ e. omega (arith, here.1, eqb-true q here.0 e)) (below xs rest q) there
+      go (eqb q here.0) (list_any (eqb q) (places xs rest)) (λ e. omega (arith, here.1, eqb-true q here.0 e))
+      (below xs rest q) there
     where
-      go : (t others : Bool) → (t ≡ true → q < length ys) → (others ≡ true → q < length ys) → (t || others) ≡ true → q < length ys
+      go : (t others : Bool) → (t ≡ true → q < length ys) → (others ≡ true → q < length ys) → (t || others) ≡ true →
+          q < length ys
       go true others first rest any = first refl
       go false others first rest any = rest any
 
@@ -77,7 +83,8 @@ module _ {A : Type 0} (ys : List A) where
   -- different things of a list are at most as many as it has
   pub few : (xs : List A) → AreDifferent xs → All (Contains ys) xs → length xs ≤ length ys
   few xs differ within =
-      let most = length-le_from_distinct_below (places xs within) (length ys) (distinct xs within differ) (below xs within) in
+      let most =
+      length-le_from_distinct_below (places xs within) (length ys) (distinct xs within differ) (below xs within) in
       omega (arith, most, length-places xs within)
 
 -- different transformers of a problem are at most as many as its tuples of trees
@@ -93,4 +100,9 @@ different_transformers_are_few p terms differ derive =
       omega (arith, h.1, length-map tuples give),
       get_or-map give tuples h.0 d.trees t h.1 ∙ ap give h.2 ∙ sym d.give,
     )) terms derive in
-    omega (arith, few (map give tuples) terms differ listed, length-map tuples give, tuples_are_counted p.rules p.starts p.depth)
+    omega (
+      arith,
+      few (map give tuples) terms differ listed,
+      length-map tuples give,
+      tuples_are_counted p.rules p.starts p.depth,
+    )

@@ -1,9 +1,9 @@
 -- A problem in the middle of a text: what a draft took of which it is settled, and which words give such a draft.
-use Rattle.std.proofs.Common.{◌≡◌, ℕ, Option, None, Some, Result, Ok, Err, ap, sym, ◌∙◌, subst, refl}
+use Rattle.std.proofs.Common.{◌≡◌, Ok, Err, ap, sym, ◌∙◌, subst, refl}
 use Rattle.am_text.specs.Tokens.{Left, words}
 use Rattle.am_syntax.specs.Exact.{Takes}
-use Rattle.am_syntax.specs.Readers.{Advances, Read, Reached, Reader, done, left_by, onward}
-use Rattle.am_syntax.proofs.Laws.{Takes-words, bind_ok, ok_is, reached_here}
+use Rattle.am_syntax.specs.Readers.{Advances, Read, Reached, done, left_by, onward}
+use Rattle.am_syntax.proofs.Laws.{Takes-words, bind_ok, ok_is}
 use Rattle.am_problem.specs.Grammar.{names_of, problem}
 use Rattle.am_problem.specs.Limits.{IsProblem}
 use Rattle.am_problem.specs.Lines.{Lines}
@@ -22,6 +22,7 @@ drafted_reached : (s : Left) (read : Read Lines) → Reached s (left_by read) �
 drafted_reached s (Ok p) h = h
 drafted_reached s (Err e) h = h
 
+-- reading a draft goes forward alone
 pub draft_advances : Advances draft
 draft_advances s = drafted_reached s (problem.read s) (problem_law.advances s)
 
@@ -31,6 +32,7 @@ pub record IsDraftOf (s t : Left) (d : Draft) (p : Problem) : Type 0 where
   pub limits : IsProblem p
   pub lines : d.lines ≡ named p
 
+-- a draft that settles to a problem took the words of this problem
 pub draft_takes : (s t : Left) (d : Draft) (p : Problem) → draft s ≡ Ok (d, t) → settled d ≡ Ok p → IsDraftOf s t d p
 draft_takes s t d p read settles =
     let f = bind_ok (problem.read s) (λ l. done (draft_with s.tokens l)) (d, t) read in
@@ -43,11 +45,14 @@ draft_takes s t d p read settles =
     let taken = problem_law.takes s l f.0.1 f.1 in
     let none = none_comes names s.tokens found.0 in
     let known = known_lines names l
-    (sym (lines_past names l (words f.0.1) taken.1) ∙ ap (comes names) (sym (Takes-words s (problem.spell l) f.0.1 taken.0)) ∙ none) in
+    (sym (lines_past names l (words f.0.1) taken.1)
+    ∙ ap (comes names) (sym (Takes-words s (problem.spell l) f.0.1 taken.0)) ∙ none) in
     let sized = sized_ok (numbered l) p found.1 (formed_of l (lines_good l taken.1) known) in
     let again : l ≡ named p = sym (lines_again l known) ∙ ap named sized.1 in
     record {
-      taken = subst (λ (u : Left). Takes s (problem.spell (named p)) u) left (subst (λ (k : Lines). Takes s (problem.spell k) f.0.1) again taken.0);
+      taken =
+          subst (λ (u : Left). Takes s (problem.spell (named p)) u) left
+          (subst (λ (k : Lines). Takes s (problem.spell k) f.0.1) again taken.0);
       limits = sized.0;
       lines = ap (λ (q : Draft). q.lines) (sym is) ∙ again;
     }
@@ -59,6 +64,7 @@ pub record HasDraft (s t : Left) (p : Problem) : Type 0 where
   pub settles : settled found ≡ Ok p
   pub lines : found.lines ≡ named p
 
+-- the words of a problem are read as a draft that settles to it
 pub draft_again : (s t : Left) (p : Problem) → IsProblem p → Takes s (problem.spell (named p)) t → HasDraft s t p
 draft_again s t p is taken =
     let l = named p in

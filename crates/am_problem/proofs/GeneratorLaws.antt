@@ -29,6 +29,7 @@ use Rattle.am_problem.proofs.MadeRules.{PairOperator, weight_of-most}
 made_width-width : (n : ℕ) → IsWidth (made_width n)
 made_width-width n = let digit : n % 7 < 7 = mod-lt n (omega arith) in (omega arith, omega arith)
 
+-- each operation of made problems has two arguments
 pub made_operation-pair : (n : ℕ) → arity (made_operation n) ≡ 2
 made_operation-pair n =
     item_holds (λ op. arity op ≡ 2) made_operations (n / 35 % 12) _ refl

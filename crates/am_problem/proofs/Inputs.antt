@@ -10,9 +10,8 @@ use Rattle.am_domain.specs.Question.{AreInputs, AreMembers, IsMember, Question}
 use Rattle.am_problem.proofs.Cutting.{concat-split, get_or-split, IsTuple-concat, IsTuple-part, length-split}
 use Rattle.am_problem.proofs.Cutting.{split-concat}
 use Rattle.am_problem.specs.ExampleLaws.{InputsAreCut, InputsAreParts, InputsAreTuples, MembersAreWords}
-use Rattle.am_problem.specs.ExampleLaws.{ResultsAreValues, RowsAreInputs}
-use Rattle.am_problem.specs.ExampleLaws.{RowsAreJoined, TrueExamplesAreStored, TuplesAreCut, ValidExamplesAreStored}
-use Rattle.am_problem.specs.ExampleLaws.{WordsAreMembers}
+use Rattle.am_problem.specs.ExampleLaws.{ResultsAreValues, RowsAreInputs, RowsAreJoined, TrueExamplesAreStored}
+use Rattle.am_problem.specs.ExampleLaws.{TuplesAreCut, ValidExamplesAreStored, WordsAreMembers}
 use Rattle.am_problem.specs.Examples.{inputs_of, IsRow}
 use Rattle.am_problem.specs.Kinds.{fields_of, meaning_of}
 use Rattle.am_problem.specs.Problem.{Problem, question_of}

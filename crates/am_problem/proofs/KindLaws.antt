@@ -19,6 +19,7 @@ unfolding kind_named
 kind_of_name v kind e =
     sym (same_bytes (kind_name kind) v (found_passes (λ kind. bytes_eq (kind_name kind) v) all_kinds kind e))
 
+-- the name of a domain is read exactly as it is spelled
 pub domain_law : IsExact domain always
 unfolding domain
 domain_law = token_law domain_judge kind_name (λ _. Unit {0})

@@ -13,6 +13,7 @@ pub mod Formed
 pub mod TextLaws
 pub mod DraftLaws
 pub mod Indexing
+pub mod KnownNames
 pub mod Cutting
 pub mod Inputs
 pub mod Fitting
@@ -22,4 +23,6 @@ pub mod MadeDomains
 pub mod GeneratorLaws
 pub mod Printed
 pub mod PrintingLaws
+pub mod LastRefusals
+pub mod RuleRefusals
 pub mod Laws

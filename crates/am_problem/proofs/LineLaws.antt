@@ -16,17 +16,18 @@ use Rattle.am_syntax.proofs.Laws.{times_law}
 use Rattle.am_syntax.specs.Exact.{IsExact, WithoutKey, always}
 use Rattle.am_syntax.proofs.Laws.{closed_law, keyed_law, optional_law, seen_law, then_law}
 use Rattle.am_problem.proofs.ProblemLaws.{rules_law}
-use Rattle.am_syntax.proofs.Laws.{term_within_law}
-use Rattle.am_syntax.proofs.Laws.{name_law, number_law}
+use Rattle.am_syntax.proofs.Laws.{term_within_law, name_law, number_law}
 
 -- ---- the lines
 
+-- a term over the words of inputs has a width and few variables
 pub input_scope : (w n : ℕ) → w ≤ 8 → n ≤ 3 → IsScope (scope_at w X n)
 input_scope w n narrow few = record { width = narrow; variables = omega arith }
 
 header_there : (x : HeaderParts) → (1 ≤ x.0) × (x.0 ≤ 1) → header_parts (header_of x) ≡ x
 header_there x one = ap (λ (n : ℕ). (n, x.1)) (let e : 1 ≡ x.0 = omega (arith, one) in e)
 
+-- the lines up to that of the assumption are read exactly as they are spelled, where no other `assume` follows
 pub header_law : IsExact header (WithoutKey (codes "assume") always)
 unfolding header number
 header_law =
@@ -39,10 +40,12 @@ header_law =
     (λ _ _ _ _ _ _. tt)) (λ _ _ _ _ _ _. tt)) (λ _ _ _ _ _ _. tt)) (λ _ _ _ _ _ _. tt))
     (λ x good. header_there x good.0) (λ h. refl)
 
+-- so is the line of the starts
 pub starts_law : (k : ℕ) → IsExact (starts k) always
 unfolding starts
 starts_law k = keyed_law syntax (codes "start") (times_law (λ seen. name_law (late (codes "depth"))) (λ _ _ _ _. tt) k)
 
+-- so are the lines of what may be spent
 pub budgets_law : IsExact budgets always
 unfolding budgets
 budgets_law =
@@ -56,10 +59,12 @@ budgets_law =
 field_count : (n : ℕ) (k : Kind) → n ≤ 3 → n * fields_of k < 2 ^ 64
 field_count n k h = let most : n * fields_of k ≤ 3 * 4 = mul-le-mul h (laws_of k).few_fields in omega (arith, most)
 
+-- a term over the fields of inputs has a width and few variables
 pub field_scope : (h : Header) (k : Kind) → header.Good h → IsScope (scope_at h.width F (h.inputs * fields_of k))
 unfolding header number
 field_scope h k good = record { width = good.1.0.1; variables = field_count h.inputs k good.1.1.0.1 }
 
+-- all lines are read exactly as they are spelled
 pub problem_law : IsExact problem always
 unfolding problem
 problem_law =

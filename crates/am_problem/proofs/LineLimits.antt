@@ -1,5 +1,7 @@
 -- Lines are good exactly where they are within the limits.
-use Rattle.std.proofs.Common.{◌≡◌, ℕ, zero, suc, ◌+◌, ◌-◌, ◌*◌, ◌<◌, ◌≤◌, ◌==◌, Bool, false, cond, sum_by, List, [], ◌∷◌, ◌++◌, length, codes, Option, Some, None, subst, sym, arith, append_assoc, length-append, lit≤, IsTrue}
+use Rattle.std.proofs.Common.{◌≡◌, ℕ, zero, suc, ◌+◌, ◌-◌, ◌*◌, ◌<◌, ◌≤◌, ◌==◌, Bool, false, cond, sum_by, List, []}
+use Rattle.std.proofs.Common.{◌∷◌, ◌++◌, length, codes, Option, Some, None, subst, sym, arith, append_assoc}
+use Rattle.std.proofs.Common.{length-append, lit≤}
 use Rattle.std.specs.Prelude.{IfSome}
 use Rattle.std.specs.List.{AllByRecursion}
 use Rattle.std.proofs.lemmas.Bool.{ne_eqb}
@@ -7,63 +9,24 @@ use Rattle.std.proofs.lemmas.List.{append-nil}
 use Rattle.std.proofs.lemmas.List.Sums.{sum_by-append}
 use Rattle.am_bv.specs.Terms.{nodes}
 use Rattle.am_bv.specs.declared.term.Term.{Term}
-use Rattle.am_bv.proofs.Laws.{by_induction}
-use Rattle.am_bv.proofs.Laws.{nodes-Const, nodes-Field, nodes-Node}
+use Rattle.am_bv.proofs.Laws.{by_induction, nodes-Const, nodes-Field, nodes-Node}
 use Rattle.am_syntax.specs.declared.limits.Letter.TheVariants.{X, F}
 use Rattle.am_syntax.specs.Spelling.{Scope}
-use Rattle.am_tree.specs.declared.grammar.TheConstants.{MOST_DEPTH, MOST_LEAF_NODES, MOST_PRODUCTIONS, MOST_RULES}
-use Rattle.am_problem.specs.declared.limits.TheConstants.{MOST_CONFLICTS, MOST_INPUTS, MOST_NODES, MOST_TURNS}
-use Rattle.am_bv.specs.Operators.{arity}
-use Rattle.am_syntax.specs.Numerals.{is_name}
 use Rattle.am_problem.specs.Kinds.{fields_of}
 use Rattle.am_syntax.specs.Pieces.{good_from, name_or, number, optional_good}
+use Rattle.am_problem.specs.LineLimits.{AreNonterminals, AreRules, IsLines, IsProduction, IsRule, OnceEach}
 use Rattle.am_problem.specs.Lines.{Lines, Production, Rule, leaf, node}
-use Rattle.am_problem.specs.Grammar.{has_name, name_before, names_of, budgets, header, made, node_production, opening, problem, production, productions, rule, rule_name, rules, scope_at, small_term, starts}
+use Rattle.am_problem.specs.Grammar.{name_before, budgets, header, made, node_production, opening, problem, production}
+use Rattle.am_problem.specs.Grammar.{productions, rule, rule_name, rules, scope_at, small_term, starts}
 use Rattle.am_syntax.specs.Readers.{Word}
 use Rattle.am_syntax.specs.Spelling.{IsWithin}
 use Rattle.am_syntax.specs.Names.{operator}
 use Rattle.am_problem.specs.Grammar.{domain}
 
--- ---- the limits, in plain words
-
-abbrev pub AreNames : List Word → Type 0
-AreNames names = AllByRecursion (λ v. IsTrue (is_name v)) names
-
-abbrev pub IsProduction : Scope → Production → Type 0
-IsProduction scope (leaf t) = IsWithin scope MOST_LEAF_NODES MOST_LEAF_NODES t
-IsProduction scope (node op names) = (length names ≡ arity op) × AreNames names
-
-pub record IsRule (scope : Scope) (r : Rule) : Type 0 where
-  pub name : IsTrue (is_name r.name)
-  pub productions : AllByRecursion (IsProduction scope) r.productions
-
--- no name is had by an earlier rule
-abbrev pub OnceEach : List Rule → List Rule → Type 0
-OnceEach seen [] = Unit {0}
-OnceEach seen (r ∷ rules) = (has_name (names_of seen) r.name ≡ false) × OnceEach (seen ++ r ∷ []) rules
-
-pub record AreRules (scope : Scope) (seen rules : List Rule) : Type 0 where
-  pub each : AllByRecursion (IsRule scope) rules
-  pub once : OnceEach seen rules
-  pub few : length (seen ++ rules) ≤ MOST_RULES
-  pub few_productions : made (seen ++ rules) ≤ MOST_PRODUCTIONS
-
--- lines that stand in some problem
-pub record IsLines (d : Lines) : Type 0 where
-  pub width : (2 ≤ d.header.width) × (d.header.width ≤ 8)
-  pub inputs : (1 ≤ d.header.inputs) × (d.header.inputs ≤ MOST_INPUTS)
-  pub operation : IsWithin (scope_at d.header.width X d.header.inputs) MOST_NODES MOST_NODES d.header.operation
-  pub assume : IfSome d.header.assume (IsWithin (scope_at d.header.width X d.header.inputs) MOST_NODES MOST_NODES)
-  pub start_per_field : length d.starts ≡ fields_of d.kind
-  pub starts : AreNames d.starts
-  pub depth : (1 ≤ d.budgets.depth) × (d.budgets.depth ≤ MOST_DEPTH)
-  pub turns : d.budgets.turns ≤ MOST_TURNS
-  pub conflicts : (1 ≤ d.budgets.conflicts) × (d.budgets.conflicts ≤ MOST_CONFLICTS)
-  pub rules : AreRules (scope_at d.header.width F (d.header.inputs * fields_of d.kind)) [] d.rules
-
 -- ---- what is good is within them
 
-names_good : (word : Word) (seen names : List Word) → good_from (λ _. name_before word) seen names → AreNames names
+names_good : (word : Word) (seen names : List Word) → good_from (λ _. name_before word) seen names →
+    AreNonterminals names
 unfolding name_or
 names_good word seen [] good = tt
 names_good word seen (n ∷ names) good = (good.0, names_good word (seen ++ n ∷ []) names good.1)
@@ -86,30 +49,39 @@ one_node t = by_induction (λ t. 0 < nodes t) (record {
   node = λ op ts h. omega (arith, nodes-Node op ts);
 }) t
 
-production_good : (scope : Scope) (room : ℕ) (p : Production) → ((t : Term) → 0 < nodes t) → (production scope room).Good p → Fits scope room p
+production_good : (scope : Scope) (room : ℕ) (p : Production) → ((t : Term) → 0 < nodes t) →
+    (production scope room).Good p →
+    Fits scope room p
 unfolding production node_production opening operator
 production_good scope room (leaf t) one good =
     let r = room_is room (nodes t) (one t) good.few in
     record { fit = record { fit = good.fit; few = r.1; flat = good.flat }; some = r.0 }
-production_good scope room (node op names) one good = record { fit = (good.1.1.0, names_good (codes ")") [] names good.1.1.1); some = good.0 }
+production_good scope room (node op names) one good =
+    record { fit = (good.1.1.0, names_good (codes ")") [] names good.1.1.1); some = good.0 }
 
 record AreFew (scope : Scope) (room : ℕ) (before ps : List Production) : Type 0 where
   each : AllByRecursion (IsProduction scope) ps
   few : length before + length ps ≤ room
 
-productions_good : (scope : Scope) (room : ℕ) → ((t : Term) → 0 < nodes t) → (before ps : List Production) → length before ≤ room →
+productions_good : (scope : Scope) (room : ℕ) → ((t : Term) → 0 < nodes t) → (before ps : List Production) →
+    length before ≤ room →
     good_from (λ before. production scope (room - length before)) before ps → AreFew scope room before ps
 productions_good scope room one before [] h good = record { each = tt; few = omega arith }
 productions_good scope room one before (p ∷ ps) h good =
     let f = production_good scope (room - length before) p one good.0 in
-    let others = productions_good scope room one (before ++ p ∷ []) ps (omega (arith, f.some, length-append before (p ∷ []))) good.1 in
+    let others = productions_good scope room one (before ++ p ∷ []) ps
+    (omega (arith, f.some, length-append before (p ∷ []))) good.1 in
     record { each = (f.fit, others.each); few = omega (arith, others.few, length-append before (p ∷ [])) }
 
 sum_by-one : {A : Type 0} (f : A → ℕ) (x : A) → sum_by f (x ∷ []) ≡ f x
 sum_by-one f x = omega arith
 
 more_made : (seen : List Rule) (r : Rule) → made (seen ++ r ∷ []) ≡ made seen + length r.productions
-more_made seen r = omega (arith, sum_by-append (λ (r : Rule). length r.productions) seen (r ∷ []), sum_by-one (λ (r : Rule). length r.productions) r)
+more_made seen r = omega (
+  arith,
+  sum_by-append (λ (r : Rule). length r.productions) seen (r ∷ []),
+  sum_by-one (λ (r : Rule). length r.productions) r,
+)
 
 again : (seen : List Rule) (r : Rule) (rs : List Rule) → (seen ++ r ∷ []) ++ rs ≡ seen ++ r ∷ rs
 again seen r rs = append_assoc seen (r ∷ []) rs
@@ -120,7 +92,8 @@ record Ruled (scope : Scope) (seen : List Rule) (r : Rule) : Type 0 where
   productions : made seen + length r.productions ≤ 64
   once : OnceEach seen (r ∷ [])
 
-rule_good : (scope : Scope) (seen : List Rule) (r : Rule) → made seen ≤ 64 → (rule scope seen).Good r → Ruled scope seen r
+rule_good : (scope : Scope) (seen : List Rule) (r : Rule) → made seen ≤ 64 → (rule scope seen).Good r →
+    Ruled scope seen r
 unfolding rule rule_name productions
 rule_good scope seen r h good =
     let ps = productions_good scope (64 - made seen) one_node [] r.productions (omega arith) good.1 in
@@ -131,11 +104,19 @@ rule_good scope seen r h good =
       once = (good.0.2, tt);
     }
 
-rules_good : (scope : Scope) (seen rs : List Rule) → length seen ≤ 16 → made seen ≤ 64 → good_from (rule scope) seen rs → AreRules scope seen rs
-rules_good scope seen [] h k good = record { each = tt; once = tt; few = subst (λ (xs : List Rule). length xs ≤ 16) (sym (append-nil seen)) h; few_productions = subst (λ (xs : List Rule). made xs ≤ 64) (sym (append-nil seen)) k }
+rules_good : (scope : Scope) (seen rs : List Rule) → length seen ≤ 16 → made seen ≤ 64 →
+    good_from (rule scope) seen rs →
+    AreRules scope seen rs
+rules_good scope seen [] h k good = record {
+  each = tt;
+  once = tt;
+  few = subst (λ (xs : List Rule). length xs ≤ 16) (sym (append-nil seen)) h;
+  few_productions = subst (λ (xs : List Rule). made xs ≤ 64) (sym (append-nil seen)) k;
+}
 rules_good scope seen (r ∷ rs) h k good =
     let one = rule_good scope seen r k good.0 in
-    let others = rules_good scope (seen ++ r ∷ []) rs (omega (arith, one.room, length-append seen (r ∷ []))) (omega (arith, one.productions, more_made seen r)) good.1 in
+    let others = rules_good scope (seen ++ r ∷ []) rs (omega (arith, one.room, length-append seen (r ∷ [])))
+    (omega (arith, one.productions, more_made seen r)) good.1 in
     record {
       each = (one.is, others.each);
       once = (one.once.0, others.once);
@@ -163,12 +144,15 @@ lines_good d good =
       depth = b.0;
       turns = b.1.0.1;
       conflicts = b.1.1;
-      rules = rules_good (scope_at d.header.width F (d.header.inputs * fields_of d.kind)) [] d.rules (lit≤ tt) (lit≤ tt) good.1.1.1.1;
+      rules =
+          rules_good (scope_at d.header.width F (d.header.inputs * fields_of d.kind)) [] d.rules (lit≤ tt) (lit≤ tt)
+          good.1.1.1.1;
     }
 
 -- ---- and back
 
-names_back : (word : Word) (seen names : List Word) → AreNames names → good_from (λ _. name_before word) seen names
+names_back : (word : Word) (seen names : List Word) → AreNonterminals names →
+    good_from (λ _. name_before word) seen names
 unfolding name_or
 names_back word seen [] are = tt
 names_back word seen (n ∷ names) are = (are.0, names_back word (seen ++ n ∷ []) names are.1)
@@ -178,12 +162,15 @@ room_back room n some h =
     let other : (room == 0) ≡ false = ne_eqb room 0 (λ e. omega arith) in
     subst (λ (b : Bool). n ≤ cond b 0 64) (sym other) h
 
-production_back : (scope : Scope) (room : ℕ) (p : Production) → 0 < room → IsProduction scope p → (production scope room).Good p
+production_back : (scope : Scope) (room : ℕ) (p : Production) → 0 < room → IsProduction scope p →
+    (production scope room).Good p
 unfolding production node_production opening operator
-production_back scope room (leaf t) some is = record { fit = is.fit; few = room_back room (nodes t) some is.few; flat = is.flat }
+production_back scope room (leaf t) some is =
+    record { fit = is.fit; few = room_back room (nodes t) some is.few; flat = is.flat }
 production_back scope room (node op names) some is = (some, (tt, (is.0, names_back (codes ")") [] names is.1)))
 
-productions_back : (scope : Scope) (room : ℕ) (before ps : List Production) → AllByRecursion (IsProduction scope) ps → length before + length ps ≤ room →
+productions_back : (scope : Scope) (room : ℕ) (before ps : List Production) → AllByRecursion (IsProduction scope) ps →
+    length before + length ps ≤ room →
     good_from (λ before. production scope (room - length before)) before ps
 productions_back scope room before [] each few = tt
 productions_back scope room before (p ∷ ps) each few = (
@@ -193,17 +180,27 @@ productions_back scope room before (p ∷ ps) each few = (
 
 rule_back : (scope : Scope) (seen : List Rule) (r : Rule) → Ruled scope seen r → (rule scope seen).Good r
 unfolding rule rule_name productions
-rule_back scope seen r is = ((is.is.name, is.room, is.once.0), productions_back scope (64 - made seen) [] r.productions is.is.productions (omega (arith, is.productions)))
+rule_back scope seen r is = (
+  (is.is.name, is.room, is.once.0),
+  productions_back scope (64 - made seen) [] r.productions is.is.productions (omega (arith, is.productions)),
+)
 
 rules_back : (scope : Scope) (seen rs : List Rule) → AreRules scope seen rs → good_from (rule scope) seen rs
 rules_back scope seen [] are = tt
 rules_back scope seen (r ∷ rs) are =
     let few = subst (λ (xs : List Rule). length xs ≤ 16) (sym (again seen r rs)) are.few in
     let few_productions = subst (λ (xs : List Rule). made xs ≤ 64) (sym (again seen r rs)) are.few_productions in
-    let shorter : length seen < 16 = omega (arith, few, length-append (seen ++ r ∷ []) rs, length-append seen (r ∷ [])) in
-    let fewer : made seen + length r.productions ≤ 64 = omega (arith, few_productions, sum_by-append (λ (r : Rule). length r.productions) (seen ++ r ∷ []) rs, more_made seen r) in (
+    let shorter : length seen < 16 =
+    omega (arith, few, length-append (seen ++ r ∷ []) rs, length-append seen (r ∷ [])) in
+    let fewer : made seen + length r.productions ≤ 64 = omega (
+      arith,
+      few_productions,
+      sum_by-append (λ (r : Rule). length r.productions) (seen ++ r ∷ []) rs,
+      more_made seen r,
+    ) in (
       rule_back scope seen r (record { is = are.each.0; room = shorter; productions = fewer; once = (are.once.0, tt) }),
-      rules_back scope (seen ++ r ∷ []) rs (record { each = are.each.1; once = are.once.1; few = few; few_productions = few_productions }),
+      rules_back scope (seen ++ r ∷ []) rs
+          (record { each = are.each.1; once = are.once.1; few = few; few_productions = few_productions }),
     )
 
 assumed_back : (scope : Scope) (o : Option Term) → IfSome o (IsWithin scope 64 64) → optional_good (small_term scope) o
@@ -214,12 +211,21 @@ assumed_back scope (Some t) is = is
 pub lines_back : (d : Lines) → IsLines d → problem.Good d
 unfolding problem header starts budgets rules number domain
 lines_back d is = (
-  ((omega arith, omega arith), (is.width, (is.inputs, (is.operation, assumed_back (scope_at d.header.width X d.header.inputs) d.header.assume is.assume)))),
+  (
+    (omega arith, omega arith),
+    (
+      is.width,
+      (is.inputs, (is.operation, assumed_back (scope_at d.header.width X d.header.inputs) d.header.assume is.assume)),
+    ),
+  ),
   (
     tt,
     (
       (is.start_per_field, names_back (codes "depth") [] d.starts is.starts),
-      ((is.depth, ((omega arith, is.turns), is.conflicts)), rules_back (scope_at d.header.width F (d.header.inputs * fields_of d.kind)) [] d.rules is.rules),
+      (
+        (is.depth, ((omega arith, is.turns), is.conflicts)),
+        rules_back (scope_at d.header.width F (d.header.inputs * fields_of d.kind)) [] d.rules is.rules,
+      ),
     ),
   ),
 )

@@ -28,7 +28,8 @@ greater a b c d h k = omega (arith, h, k)
 nests : (ts : List Term) → AllByRecursion (λ t. nesting t ≤ nodes t) ts → greatest (map nesting ts) ≤ sum_by nodes ts
 nests [] h = omega arith
 nests (t ∷ ts) h =
-    let least : max (nesting t) (greatest (map nesting ts)) ≤ nodes t + sum_by nodes ts = greater (nesting t) (greatest (map nesting ts)) (nodes t) (sum_by nodes ts) h.0 (nests ts h.1) in
+    let least : max (nesting t) (greatest (map nesting ts)) ≤ nodes t + sum_by nodes ts =
+    greater (nesting t) (greatest (map nesting ts)) (nodes t) (sum_by nodes ts) h.0 (nests ts h.1) in
     omega (arith, least, sum_by-cons nodes t ts)
 
 -- no more parentheses are open than there are nodes

@@ -18,21 +18,20 @@ use Rattle.am_syntax.specs.Numerals.{is_name}
 use Rattle.am_syntax.specs.Readers.{Word, Words}
 use Rattle.am_syntax.specs.Spelling.{FitsSomewhere, IsScope}
 use Rattle.am_syntax.specs.declared.limits.Letter.TheVariants.{X, F}
-use Rattle.am_tree.specs.Grammars.{is_production}
 use Rattle.am_tree.specs.Trees.{Rules}
 use Rattle.am_tree.specs.declared.grammar.Production.{Production as Numbered}
 use Rattle.am_tree.specs.declared.grammar.Production.TheVariants.{Leaf, Node}
 use Rattle.am_problem.specs.declared.kind.Kind.{Kind}
 use Rattle.am_problem.specs.Grammar.{scope_at}
 use Rattle.am_problem.specs.Kinds.{fields_of}
-use Rattle.am_problem.specs.Limits.{IsFormed, IsOperation, IsOver}
+use Rattle.am_problem.specs.Limits.{IsFormed, IsOperation, IsOver, IsProductionOf}
 use Rattle.am_problem.specs.Printing.{budget_rows, domain_rows, header_rows, problem_text, production_words, rule_row}
 use Rattle.am_problem.specs.Problem.{Problem}
-use Rattle.am_problem.specs.Texts.{name_at, named, named_production, named_rules}
+use Rattle.am_problem.specs.Texts.{name_at, named, named_production, named_rule, named_rules}
 use Rattle.am_problem.specs.lemmas.KindLaws.{laws_of}
 use Rattle.am_problem.proofs.LineLaws.{input_scope}
 use Rattle.am_problem.proofs.Lists.{all_items}
-use Rattle.am_problem.proofs.Named.{AreBelow, AreProductions, below_by}
+use Rattle.am_problem.proofs.Named.{AreBelow, below_by}
 
 -- ---- terms that fit somewhere
 
@@ -64,11 +63,11 @@ assumption_fits p is t e =
     }
 
 -- a leaf fits over the fields
-pub leaf_fits : (p : Problem) → IsFormed p → (q : Numbered) → IsOver p.width (p.inputs * fields_of p.kind) q →
-    (t : Term) → q ≡ Leaf t → FitsSomewhere t
-leaf_fits p is q over t e =
+pub leaf_fits : (p : Problem) → IsFormed p → (q : Numbered) → IsProductionOf p q → (t : Term) → q ≡ Leaf t →
+    FitsSomewhere t
+leaf_fits p is q known t e =
     let fields = p.inputs * fields_of p.kind in
-    let own : IsOver p.width fields (Leaf t) = subst (IsOver p.width fields) e over in
+    let own : IsOver p.width fields (Leaf t) = subst (IsOver p.width fields) e known.over in
     record { scope = scope_at p.width F fields; is = leaf_scope p is; fit = own }
 
 -- ---- names
@@ -115,38 +114,41 @@ module _ (p : Problem) (is : IsFormed p) where
   abbrev words_in : Numbered → Words
   words_in q = production_words (named_production p.names q)
 
-  abbrev IsFit : Numbered → Type 0
-  IsFit q = IsOver p.width (p.inputs * fields_of p.kind) q
-
-  production_apart : (q : Numbered) → IsTrue (is_production (length p.rules) q) → IsFit q → StandApart (words_in q)
-  production_apart (Leaf t) known fit =
-      term_apart F (scope_at p.width F (p.inputs * fields_of p.kind)) (leaf_scope p is) t fit
-  production_apart (Node op ns) known fit =
-      let below = below_by (length p.rules) ns (and_parts _ _ known).1 in
+  production_apart : (q : Numbered) → IsProductionOf p q → StandApart (words_in q)
+  production_apart (Leaf t) known =
+      term_apart F (scope_at p.width F (p.inputs * fields_of p.kind)) (leaf_scope p is) t known.over
+  production_apart (Node op ns) known =
+      let below = below_by (length p.rules) ns (and_parts _ _ known.production).1 in
       call_apart p.names is.names.names op ns (subst (λ (count : ℕ). AreBelow count ns) (sym is.names.each) below)
 
-  productions_apart : (qs : List Numbered) → AreProductions (length p.rules) qs → AllByRecursion IsFit qs →
-      EachApart words_in qs
-  productions_apart [] known fit = tt
-  productions_apart (q ∷ qs) known fit = (production_apart q known.0 fit.0, productions_apart qs known.1 fit.1)
+  productions_apart : (qs : List Numbered) → AllByRecursion (IsProductionOf p) qs → EachApart words_in qs
+  productions_apart [] known = tt
+  productions_apart (q ∷ qs) known = (production_apart q known.0, productions_apart qs known.1)
 
   -- the line of a rule
-  pub rule_text : (name : Word) (qs : List Numbered) → IsTrue (is_name name) →
-      All (λ q. IsTrue (is_production (length p.rules) q)) qs → All IsFit qs →
-      line (rule_row (record { name = name; productions = map (named_production p.names) qs })) ≡
+  pub rule_text : (name : Word) (qs : List Numbered) → IsTrue (is_name name) → All (IsProductionOf p) qs →
+      line (rule_row (named_rule p.names name qs)) ≡
       codes "rule" ++ ((32 ∷ name) ++ (each_text words_in qs ++ 10 ∷ []))
   unfolding line
-  rule_text name qs called known fit =
+  rule_text name qs called known =
       let key = word_apart (codes "rule") refl refl in
       let own = name_apart name called in
       let head = both_apart (codes "rule" ∷ []) (name ∷ []) key own in
-      let each = productions_apart qs (all_items _ qs known) (all_items _ qs fit) in
+      let each = productions_apart qs (all_items _ qs known) in
       ap (λ (ws : Words). spaced (codes "rule" ∷ name ∷ ws) ++ 10 ∷ [])
       (flat_map-map production_words (named_production p.names) qs)
       ∙ ap (λ (bs : List ℕ). bs ++ 10 ∷ []) (spaced_each words_in (codes "rule" ∷ name ∷ []) qs head each)
       ∙ ap (λ (bs : List ℕ). (bs ++ each_text words_in qs) ++ 10 ∷ [])
       (spaced_apart (codes "rule" ∷ []) (name ∷ []) key own)
       ∙ ap (λ (bs : List ℕ). codes "rule" ++ 32 ∷ bs) (append_assoc name (each_text words_in qs) (10 ∷ []))
+
+  -- the productions of a rule are the problem's
+  pub productions_known : (i : ℕ) (ps : List Numbered) → i < length p.rules →
+      All (IsProductionOf p) (get_or p.rules i ps)
+  productions_known i ps below k q less = record {
+    production = is.grammar.productions i ps below k q less;
+    over = is.leaves i ps below k q less;
+  }
 
 -- ---- rows by their places
 
@@ -157,7 +159,7 @@ pub record IsRowAt (rows : List Words) (i : ℕ) (row : Words) : Type 0 where
 
 module _ (names : List Word) where
   abbrev row : Word → List Numbered → Words
-  row name qs = rule_row (record { name = name; productions = map (named_production names) qs })
+  row name qs = rule_row (named_rule names name qs)
 
   rule_at : (vs : List Word) (rules : Rules) → length vs ≡ length rules →
       (i : ℕ) (v u : Word) (qs ps : List Numbered) → i < length rules → v ≡ get_or vs i u → qs ≡ get_or rules i ps →

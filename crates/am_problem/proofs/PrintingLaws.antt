@@ -18,19 +18,18 @@ use Rattle.am_syntax.specs.Spelling.{IsScope, IsWithin, Scope, letter_code, term
 use Rattle.am_syntax.specs.declared.limits.Letter.TheVariants.{X, F}
 use Rattle.am_problem.specs.declared.kind.Kind.{Kind}
 use Rattle.am_problem.specs.declared.kind.Kind.TheVariants.{UInterval}
-use Rattle.am_problem.specs.declared.limits.TheConstants.{MOST_NODES}
 use Rattle.am_problem.specs.Grammar.{budgets, domain, header, node_production, opening, problem, production}
 use Rattle.am_problem.specs.Grammar.{productions, rule, rule_name, rules, scope_at, small_term, starts}
 use Rattle.am_problem.specs.Kinds.{fields_of, kind_name}
 use Rattle.am_problem.specs.Limits.{IsProblem}
 use Rattle.am_problem.specs.Lines.{Budgets, Header, Lines, Production, Rule, leaf, node}
 use Rattle.am_problem.specs.Printing.{assume_rows, budget_rows, domain_rows, header_rows, operation_row}
-use Rattle.am_problem.specs.Printing.{problem_rows, problem_text, production_words, rule_row}
+use Rattle.am_problem.specs.Printing.{begun_rows, joined, problem_rows, problem_text, production_words, rule_row}
 use Rattle.am_problem.specs.Problem.{Problem}
 use Rattle.am_problem.specs.Texts.{Reads, named}
 use Rattle.am_problem.proofs.Formed.{lines_of_formed}
 use Rattle.am_problem.proofs.LineLaws.{input_scope}
-use Rattle.am_problem.proofs.LineLimits.{AreNames, IsLines, IsProduction, IsRule}
+use Rattle.am_problem.specs.LineLimits.{AreNonterminals, IsLines, IsProduction, IsRule}
 use Rattle.am_problem.proofs.Lists.{all_more}
 use Rattle.am_problem.proofs.Printed.{few_variables}
 use Rattle.am_problem.proofs.Undefined.{names_spelled}
@@ -57,12 +56,12 @@ kind_plain _ = refl
 pub number_tokens : (key : Word) (n : ℕ) → is_plain key ≡ true → n < 2 ^ 64 → AreTokens (key ∷ decimal n ∷ [])
 number_tokens key n plain small = (plain_token key plain, (number_is_token n small, tt))
 
-names_tokens : (vs : List Word) → AreNames vs → AreTokens vs
+names_tokens : (vs : List Word) → AreNonterminals vs → AreTokens vs
 names_tokens [] h = tt
 names_tokens (v ∷ vs) h = (name_is_token v h.0, names_tokens vs h.1)
 
 module _ (scope : Scope) (is : IsScope scope) where
-  assume_tokens : (o : Option Term) → IfSome o (IsWithin scope MOST_NODES MOST_NODES) →
+  assume_tokens : (o : Option Term) → IfSome o (IsWithin scope 64 64) →
       AllByRecursion AreTokens (assume_rows o)
   assume_tokens None h = tt
   assume_tokens (Some t) h = ((plain_token (codes "assume") refl, term_is_tokens X scope is t h.fit), tt)
@@ -129,17 +128,14 @@ rows_tokens l is =
     record { width = is.width.1; variables = few_variables l.header.inputs l.kind is.inputs.1 } in
     let last : List Words = (codes "end" ∷ []) ∷ [] in
     let end : AllByRecursion AreTokens last = ((plain_token (codes "end") refl, tt), tt) in
-    let behind_budgets = map rule_row l.rules ++ last in
-    let behind_starts = budget_rows l.budgets ++ behind_budgets in
-    both_tokens (header_rows l.header) (domain_rows l ++ behind_starts) (header_tokens l is)
-    (both_tokens (domain_rows l) behind_starts (domain_tokens l is)
-    (both_tokens (budget_rows l.budgets) behind_budgets (budgets_tokens l is)
+    let after_budgets = map rule_row l.rules ++ last in
+    let after_starts = budget_rows l.budgets ++ after_budgets in
+    both_tokens (header_rows l.header) (domain_rows l ++ after_starts) (header_tokens l is)
+    (both_tokens (domain_rows l) after_starts (domain_tokens l is)
+    (both_tokens (budget_rows l.budgets) after_budgets (budgets_tokens l is)
     (both_tokens (map rule_row l.rules) last (rules_tokens fields over l.rules is.rules.each) end)))
 
 -- ---- the words of the rows are the problem's
-
-abbrev pub joined : List Words → Words
-joined rows = flat_map (λ ws. ws) rows
 
 -- the joined words of two lists of rows
 pub joined-append : (rows more : List Words) → joined (rows ++ more) ≡ joined rows ++ joined more
@@ -196,25 +192,48 @@ budgets_spelled : (b : Budgets) → joined (budget_rows b) ≡ budgets.spell b
 unfolding budgets number
 budgets_spelled b = refl
 
+-- the words of all rows but the last are the spelling of a problem up to its rules
+pub begun_spelled : (l : Lines) → joined (begun_rows l) ≡
+    header.spell l.header ++ ((codes "domain" ∷ domain.spell l.kind) ++ ((starts (fields_of l.kind)).spell l.starts ++
+    (budgets.spell l.budgets ++
+    spelled_from (rule (scope_at l.header.width F (l.header.inputs * fields_of l.kind))) [] l.rules)))
+begun_spelled l =
+    let rows = map rule_row l.rules in
+    let after_starts = budget_rows l.budgets ++ rows in
+    let after_header = domain_rows l ++ after_starts in
+    let kind : Words = codes "domain" ∷ domain.spell l.kind in
+    let start = (starts (fields_of l.kind)).spell l.starts in
+    joined-append (header_rows l.header) after_header
+    ∙ ap (λ (ws : Words). ws ++ joined after_header) (header_spelled l.header)
+    ∙ ap (λ (ws : Words). header.spell l.header ++ ws)
+    (joined-append (domain_rows l) after_starts
+    ∙ ap (λ (ws : Words). ws ++ joined after_starts) (domain_spelled l)
+    ∙ append_assoc kind start (joined after_starts)
+    ∙ ap (λ (ws : Words). kind ++ (start ++ ws))
+    (joined-append (budget_rows l.budgets) rows
+    ∙ ap (λ (ws : Words). ws ++ joined rows) (budgets_spelled l.budgets)
+    ∙ ap (λ (ws : Words). budgets.spell l.budgets ++ ws)
+    (rules_spelled l.header.width (l.header.inputs * fields_of l.kind) [] l.rules)))
+
 -- the words of a problem's rows are its spelling
 pub rows_spelled : (l : Lines) → joined (problem_rows l) ≡ problem.spell l
 unfolding problem rules
 rows_spelled l =
     let end : List Words = (codes "end" ∷ []) ∷ [] in
-    let behind_budgets = map rule_row l.rules ++ end in
-    let behind_starts = budget_rows l.budgets ++ behind_budgets in
-    let behind_header = domain_rows l ++ behind_starts in
+    let after_budgets = map rule_row l.rules ++ end in
+    let after_starts = budget_rows l.budgets ++ after_budgets in
+    let after_header = domain_rows l ++ after_starts in
     let kind : Words = codes "domain" ∷ domain.spell l.kind in
     let start = (starts (fields_of l.kind)).spell l.starts in
-    joined-append (header_rows l.header) behind_header
-    ∙ ap (λ (ws : Words). ws ++ joined behind_header) (header_spelled l.header)
+    joined-append (header_rows l.header) after_header
+    ∙ ap (λ (ws : Words). ws ++ joined after_header) (header_spelled l.header)
     ∙ ap (λ (ws : Words). header.spell l.header ++ ws)
-    (joined-append (domain_rows l) behind_starts
-    ∙ ap (λ (ws : Words). ws ++ joined behind_starts) (domain_spelled l)
-    ∙ append_assoc kind start (joined behind_starts)
+    (joined-append (domain_rows l) after_starts
+    ∙ ap (λ (ws : Words). ws ++ joined after_starts) (domain_spelled l)
+    ∙ append_assoc kind start (joined after_starts)
     ∙ ap (λ (ws : Words). kind ++ (start ++ ws))
-    (joined-append (budget_rows l.budgets) behind_budgets
-    ∙ ap (λ (ws : Words). ws ++ joined behind_budgets) (budgets_spelled l.budgets)
+    (joined-append (budget_rows l.budgets) after_budgets
+    ∙ ap (λ (ws : Words). ws ++ joined after_budgets) (budgets_spelled l.budgets)
     ∙ ap (λ (ws : Words). budgets.spell l.budgets ++ ws)
     (joined-append (map rule_row l.rules) end
     ∙ ap (λ (ws : Words). ws ++ codes "end" ∷ [])

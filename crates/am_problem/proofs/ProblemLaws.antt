@@ -1,7 +1,10 @@
 -- A problem that is read is spelled so, and a problem that is spelled is read.
-use Rattle.std.proofs.Common.{◌≡◌, ℕ, ◌-◌, ◌<◌, Bool, true, false, cond, not, ◌||◌, ◌==◌, nat_le, List, [], ◌∷◌, ◌++◌, length, decimal, flat_map, codes, Result, Ok, Err, bytes_eq, ap, subst, ◌∙◌, sym, refl, arith, inl, inr, lit<, IsTrue}
+use Rattle.std.proofs.Common.{◌≡◌, ℕ, ◌-◌, ◌<◌, Bool, true, false, cond, not, ◌||◌, ◌==◌, nat_le, List, [], ◌∷◌, ◌++◌}
+use Rattle.std.proofs.Common.{length, decimal, flat_map, codes, Result, Ok, Err, bytes_eq, ap, subst, ◌∙◌, sym, refl}
+use Rattle.std.proofs.Common.{arith, inl, inr, lit<, IsTrue}
 use Rattle.std.specs.Prelude.{◌⊎◌, is_some}
-use Rattle.std.proofs.lemmas.Bool.{and_from, and_left, and_right, leb-true, ltb-true, and_parts, eqb-false, leb-false, lt-leb, ne_eqb}
+use Rattle.std.proofs.lemmas.Bool.{and_from, and_left, and_right, leb-true, ltb-true, and_parts, eqb-false, leb-false}
+use Rattle.std.proofs.lemmas.Bool.{lt-leb, ne_eqb}
 use Rattle.am_bv.specs.Operators.{arity}
 use Rattle.am_bv.specs.declared.op.Op.{Op}
 use Rattle.am_bv.specs.declared.op.Op.TheVariants.{Not, Neg, Ite}
@@ -12,15 +15,15 @@ use Rattle.am_syntax.specs.Numerals.{is_digits, is_name}
 use Rattle.am_syntax.specs.Readers.{Word, Words}
 use Rattle.am_syntax.specs.Pieces.{Piece, count, name_or, next_is, syntax}
 use Rattle.am_problem.specs.Lines.{Production, Rule, leaf, node}
-use Rattle.am_problem.specs.Grammar.{late, goes_on, has_name, leaf_production, made, names_of, node_production, opening, opening_judge, opens_names, production, production_of, production_parts, productions, rule, rule_name, rule_name_judge, rule_of, rule_parts, rules}
-use Rattle.am_tree.specs.declared.grammar.TheConstants.{MOST_PRODUCTIONS, MOST_RULES}
+use Rattle.am_problem.specs.Grammar.{late, goes_on, has_name, leaf_production, made, names_of, node_production, opening}
+use Rattle.am_problem.specs.Grammar.{opening_judge, opens_names, production, production_of, production_parts}
+use Rattle.am_problem.specs.Grammar.{productions, rule, rule_name, rule_name_judge, rule_of, rule_parts, rules}
 use Rattle.am_syntax.specs.declared.limits.Letter.{Letter}
 use Rattle.am_syntax.specs.declared.limits.Letter.TheVariants.{X, F}
 use Rattle.am_syntax.specs.Names.{op_name}
 use Rattle.am_syntax.specs.Spelling.{IsScope, Scope, letter_code, term_words}
 use Rattle.am_bv.specs.Terms.{fits}
-use Rattle.am_bv.proofs.Laws.{by_induction}
-use Rattle.am_bv.proofs.Laws.{fits-Const, fits-Node}
+use Rattle.am_bv.proofs.Laws.{by_induction, fits-Const, fits-Node}
 use Rattle.std.specs.List.{AllByRecursion, list_all}
 use Rattle.am_syntax.proofs.Laws.{decimal-is_digits}
 use Rattle.am_syntax.specs.Names.{operator}
@@ -38,7 +41,8 @@ opening_law room = token_law (opening_judge room) (λ _. codes "(") (λ _. 0 < r
     (λ v x e. elim (chosen (bytes_eq v (codes "(")) (cond (room == 0) (Err Count) (Ok tt)) (Err Syntax) (Ok x) e) [
       | inl opens ↦ elim (chosen (room == 0) (Err Count) (Ok tt) (Ok x) opens.1) [
         | inl full ↦ absurd (let f : ◌≡◌ {A = Result (Unit {0}) Cause} (Err Count) (Ok x) = full.1 in cc)
-        | inr free ↦ (same_bytes v (codes "(") opens.0, let other : room ≡ 0 → ⊥ = eqb-false room 0 free.0 in omega arith)
+        | inr free ↦
+            (same_bytes v (codes "(") opens.0, let other : room ≡ 0 → ⊥ = eqb-false room 0 free.0 in omega arith)
       ]
       | inr other ↦ absurd (let f : ◌≡◌ {A = Result (Unit {0}) Cause} (Err Syntax) (Ok x) = other.1 in cc)
     ])
@@ -47,7 +51,12 @@ opening_law room = token_law (opening_judge room) (λ _. codes "(") (λ _. 0 < r
 pub node_law : (room : ℕ) → IsExact (node_production room) always
 unfolding node_production
 node_law room =
-    then_law (opening_law room) (λ _ _. then_law operator_law (λ op _. closed_law count (codes ")") (times_law (λ seen. name_law (late (codes ")"))) (λ _ _ _ _. tt) (arity op)) (λ _. tt)) (λ _ _ _ _ _ _. tt)) (λ _ _ _ _ _ _. tt)
+    then_law (opening_law room)
+    (λ _ _. then_law operator_law
+    (λ op _. closed_law count (codes ")") (times_law (λ seen. name_law (late (codes ")"))) (λ _ _ _ _. tt) (arity op))
+    (λ _. tt))
+    (λ _ _ _ _ _ _. tt))
+    (λ _ _ _ _ _ _. tt)
 
 pub leaf_law : (scope : Scope) → IsScope scope → (room : ℕ) → IsExact (leaf_production scope room) always
 leaf_law scope is room = term_within_law scope is false 64 (cond (room == 0) 0 64)
@@ -66,7 +75,8 @@ at_least_one Neg = lit< tt
 at_least_one Ite = lit< tt
 at_least_one _ = lit< tt
 
-node_opens : (room : ℕ) (x : Unit {0} × (Op × List Word)) (rest : Words) → (node_production room).Good x → opens_names ((node_production room).spell x ++ rest) ≡ true
+node_opens : (room : ℕ) (x : Unit {0} × (Op × List Word)) (rest : Words) → (node_production room).Good x →
+    opens_names ((node_production room).spell x ++ rest) ≡ true
 unfolding node_production opening operator name_or
 node_opens room (u, (op, [])) rest good = absurd (omega (arith, at_least_one op, good.1.1.0))
 node_opens room (u, (op, n ∷ names)) rest good = and_from _ _ (ap is_some (op_named-name op)) good.1.1.1.0
@@ -94,6 +104,7 @@ not_open v (b ∷ c ∷ rest) h = and_left _ _ (and_left _ _ h)
 no_third : (v b c : Word) (rest : Words) → is_name c ≡ false → opens_names (v ∷ b ∷ c ∷ rest) ≡ false
 no_third v b c rest h = and_right _ _ h
 
+-- a row of digits is no name
 pub digit_name : (v : Word) → is_digits v ≡ true → is_name v ≡ false
 digit_name [] h = refl
 digit_name (b ∷ bs) h =
@@ -112,13 +123,21 @@ variable_opens : (l : Letter) (i : ℕ) → bytes_eq (letter_code l ∷ decimal 
 variable_opens X i = refl
 variable_opens F i = refl
 
-node_closed_up : (scope : Scope) (op : Op) (ts : List Term) → AllByRecursion (StartsSo scope) ts → list_all (fits scope.width scope.variables) ts ≡ true → (rest : Words) →
-    opens_names (codes "(" ∷ op_name op ∷ ((flat_map (term_words (letter_code scope.letter)) ts ++ codes ")" ∷ []) ++ rest)) ≡ false
+node_closed_up : (scope : Scope) (op : Op) (ts : List Term) → AllByRecursion (StartsSo scope) ts →
+    list_all (fits scope.width scope.variables) ts ≡ true → (rest : Words) →
+    opens_names
+    (codes "(" ∷ op_name op ∷ ((flat_map (term_words (letter_code scope.letter)) ts ++ codes ")" ∷ []) ++ rest))
+    ≡ false
 node_closed_up scope op [] h fit rest = no_third (codes "(") (op_name op) (codes ")") rest refl
 node_closed_up scope op (t ∷ ts) h fit rest =
     let one = h.0 (and_parts _ _ fit).0 in
-    ap (λ (ws : Words). opens_names (codes "(" ∷ op_name op ∷ (((ws ++ flat_map (term_words (letter_code scope.letter)) ts) ++ codes ")" ∷ []) ++ rest))) one.text
-    ∙ no_third (codes "(") (op_name op) one.first (((one.others ++ flat_map (term_words (letter_code scope.letter)) ts) ++ codes ")" ∷ []) ++ rest) one.starts.no_name
+    ap
+    (λ (ws : Words). opens_names
+    (codes "(" ∷ op_name op
+    ∷ (((ws ++ flat_map (term_words (letter_code scope.letter)) ts) ++ codes ")" ∷ []) ++ rest)))
+    one.text
+    ∙ no_third (codes "(") (op_name op) one.first
+    (((one.others ++ flat_map (term_words (letter_code scope.letter)) ts) ++ codes ")" ∷ []) ++ rest) one.starts.no_name
 
 begins : (scope : Scope) → IsScope scope → (t : Term) → StartsSo scope t
 begins scope is t = by_induction (StartsSo scope) (record {
@@ -129,7 +148,11 @@ begins scope is t = by_induction (StartsSo scope) (record {
         first = decimal c;
         others = [];
         text = words-Const (letter_code scope.letter) c;
-        starts = record { no_name = digit_name (decimal c) digits; no_rule = digits_apart (decimal c) (codes "rule") digits refl; no_end = digits_apart (decimal c) (codes "end") digits refl };
+        starts = record {
+          no_name = digit_name (decimal c) digits;
+          no_rule = digits_apart (decimal c) (codes "rule") digits refl;
+          no_end = digits_apart (decimal c) (codes "end") digits refl;
+        };
         closed_up = λ rest. not_open (decimal c) rest (digits_apart (decimal c) (codes "(") digits refl);
       };
   field = λ i fit. record {
@@ -144,11 +167,16 @@ begins scope is t = by_induction (StartsSo scope) (record {
     others = op_name op ∷ (flat_map (term_words (letter_code scope.letter)) ts ++ codes ")" ∷ []);
     text = words-Node (letter_code scope.letter) op ts;
     starts = record { no_name = refl; no_rule = refl; no_end = refl };
-    closed_up = node_closed_up scope op ts h (and_parts (length ts == arity op) (list_all (fits scope.width scope.variables) ts) (sym (fits-Node scope.width scope.variables op ts) ∙ fit)).1;
+    closed_up =
+        node_closed_up scope op ts h
+        (and_parts (length ts == arity op) (list_all (fits scope.width scope.variables) ts)
+        (sym (fits-Node scope.width scope.variables op ts) ∙ fit)).1;
   };
 }) t
 
-leaf_doesnt : (scope : Scope) → IsScope scope → (room : ℕ) (t : Term) (rest : Words) → (leaf_production scope room).Good t → opens_names ((leaf_production scope room).spell t ++ rest) ≡ false
+leaf_doesnt : (scope : Scope) → IsScope scope → (room : ℕ) (t : Term) (rest : Words) →
+    (leaf_production scope room).Good t →
+    opens_names ((leaf_production scope room).spell t ++ rest) ≡ false
 leaf_doesnt scope is room t rest good =
     let b = begins scope is t good.fit in
     ap (λ (ws : Words). opens_names (ws ++ rest)) b.text ∙ b.closed_up rest
@@ -156,75 +184,104 @@ leaf_doesnt scope is room t rest good =
 pub production_law : (scope : Scope) → IsScope scope → (room : ℕ) → IsExact (production scope room) always
 unfolding production
 production_law scope is room =
-    seen_law production_of production_parts (choice_law opens_names (node_law room) (leaf_law scope is room) (node_opens room) (leaf_doesnt scope is room)) (λ x good. there x) back
+    seen_law production_of production_parts
+    (choice_law opens_names (node_law room) (leaf_law scope is room) (node_opens room) (leaf_doesnt scope is room))
+    (λ x good. there x) back
 
 -- a production begins as no key word does
-production_goes : (scope : Scope) → IsScope scope → (room : ℕ) (p : Production) (rest : Words) → (production scope room).Good p → goes_on ((production scope room).spell p ++ rest) ≡ true
+production_goes : (scope : Scope) → IsScope scope → (room : ℕ) (p : Production) (rest : Words) →
+    (production scope room).Good p →
+    goes_on ((production scope room).spell p ++ rest) ≡ true
 unfolding production node_production opening
 production_goes scope is room (leaf t) rest good =
     let b = begins scope is t good.fit in
-    ap (λ (ws : Words). goes_on (ws ++ rest)) b.text ∙ ap not (ap (λ (x : Bool). x || bytes_eq b.first (codes "end")) b.starts.no_rule ∙ b.starts.no_end)
+    ap (λ (ws : Words). goes_on (ws ++ rest)) b.text
+    ∙ ap not (ap (λ (x : Bool). x || bytes_eq b.first (codes "end")) b.starts.no_rule ∙ b.starts.no_end)
 production_goes scope is room (node op names) rest good = refl
 
-production_moves : (scope : Scope) → IsScope scope → (room : ℕ) (p : Production) → (production scope room).Good p → 0 < length ((production scope room).spell p)
+production_moves : (scope : Scope) → IsScope scope → (room : ℕ) (p : Production) → (production scope room).Good p →
+    0 < length ((production scope room).spell p)
 unfolding production node_production opening
 production_moves scope is room (leaf t) good = let b = begins scope is t good.fit in omega (arith, ap length b.text)
 production_moves scope is room (node op names) good = omega arith
 
+-- no further production of a rule comes
 abbrev pub EndsRule : Words → Type 0
 EndsRule rest = goes_on rest ≡ false
 
 module _ (scope : Scope) (is : IsScope scope) (room : ℕ) where
+  -- the piece of the next production, after these
   abbrev pub item : List Production → Piece Production
   item before = production scope (room - length before)
 
+  -- it is read exactly as it is spelled
   pub each_law : (before : List Production) → IsExact (item before) always
   each_law before = production_law scope is (room - length before)
 
-  pub each_moves : (before : List Production) (p : Production) → (item before).Good p → 0 < length ((item before).spell p)
+  -- it takes a token at least
+  pub each_moves : (before : List Production) (p : Production) → (item before).Good p →
+      0 < length ((item before).spell p)
   each_moves before p good = production_moves scope is (room - length before) p good
 
   pub productions_law : IsExact (productions scope room) EndsRule
   unfolding productions
-  productions_law = repeat_law each_law goes_on each_moves (λ rest h. (h, tt)) (λ before p rest good. production_goes scope is (room - length before) p rest good) (λ _ _ _ _. tt)
+  productions_law =
+      repeat_law each_law goes_on each_moves (λ rest h. (h, tt))
+      (λ before p rest good. production_goes scope is (room - length before) p rest good) (λ _ _ _ _. tt)
 
 -- ---- rules
 
 pub rule_name_law : (seen : List Rule) → IsExact (rule_name seen) always
 unfolding rule_name
-rule_name_law seen = token_law (rule_name_judge seen) (λ v. v) (λ v. IsTrue (is_name v) × (length seen < MOST_RULES) × (has_name (names_of seen) v ≡ false))
+rule_name_law seen =
+    token_law (rule_name_judge seen) (λ v. v)
+    (λ v. IsTrue (is_name v) × (length seen < 16) × (has_name (names_of seen) v ≡ false))
     (λ v x e. elim (chosen (is_name v) _ _ (Ok x) e) [
-      | inl name ↦ elim (chosen (nat_le MOST_RULES (length seen)) _ _ (Ok x) name.1) [
+      | inl name ↦ elim (chosen (nat_le 16 (length seen)) _ _ (Ok x) name.1) [
         | inl full ↦ absurd (let f : ◌≡◌ {A = Result Word Cause} (Err Count) (Ok x) = full.1 in cc)
         | inr free ↦ elim (chosen (has_name (names_of seen) v) _ _ (Ok x) free.1) [
           | inl twice ↦ absurd (let f : ◌≡◌ {A = Result Word Cause} (Err Twice) (Ok x) = twice.1 in cc)
           | inr once ↦
-              let same : v ≡ x = (let f : ◌≡◌ {A = Result Word Cause} (Ok v) (Ok x) = once.1 in cc) in
-              (same, subst (λ (w : Word). IsTrue (is_name w) × (length seen < MOST_RULES) × (has_name (names_of seen) w ≡ false)) same (name.0, leb-false _ _ free.0, once.0))
+              let same : v ≡ x = (let f : ◌≡◌ {A = Result Word Cause} (Ok v) (Ok x) = once.1 in cc) in (
+                same,
+                subst (λ (w : Word). IsTrue (is_name w) × (length seen < 16) × (has_name (names_of seen) w ≡ false))
+                    same (name.0, leb-false _ _ free.0, once.0),
+              )
         ]
       ]
       | inr other ↦ absurd (let f : ◌≡◌ {A = Result Word Cause} (Err Syntax) (Ok x) = other.1 in cc)
     ])
     (λ v good.
-    ap (λ b. cond b (cond (nat_le MOST_RULES (length seen)) (Err Count) (cond (has_name (names_of seen) v) (Err Twice) (Ok v))) (Err Syntax)) good.0
-    ∙ ap (λ b. cond b (Err Count) (cond (has_name (names_of seen) v) (Err Twice) (Ok v))) (lt-leb MOST_RULES (length seen) good.1)
+    ap
+    (λ b. cond b (cond (nat_le 16 (length seen)) (Err Count) (cond (has_name (names_of seen) v) (Err Twice) (Ok v)))
+    (Err Syntax))
+    good.0
+    ∙ ap (λ b. cond b (Err Count) (cond (has_name (names_of seen) v) (Err Twice) (Ok v)))
+    (lt-leb 16 (length seen) good.1)
     ∙ ap (λ b. cond b (Err Twice) (Ok v)) good.2)
 
 module _ (scope : Scope) (is : IsScope scope) where
+  -- a rule is read exactly as it is spelled, where no further production follows
   pub rule_law : (seen : List Rule) → IsExact (rule scope seen) EndsRule
   unfolding rule
   rule_law seen =
-      seen_law rule_of rule_parts (keyed_law syntax (codes "rule") (then_law (rule_name_law seen) (λ _ _. productions_law scope is (MOST_PRODUCTIONS - made seen)) (λ _ _ _ _ _ _. tt))) (λ x good. refl) (λ r. refl)
+      seen_law rule_of rule_parts
+      (keyed_law syntax (codes "rule")
+      (then_law (rule_name_law seen) (λ _ _. productions_law scope is (64 - made seen)) (λ _ _ _ _ _ _. tt)))
+      (λ x good. refl) (λ r. refl)
 
+  -- a rule takes a token at least
   pub rule_moves : (seen : List Rule) (r : Rule) → (rule scope seen).Good r → 0 < length ((rule scope seen).spell r)
   unfolding rule
   rule_moves seen r good = omega arith
 
-  rule_begins : (seen : List Rule) (r : Rule) (rest : Words) → (rule scope seen).Good r → next_is (codes "rule") ((rule scope seen).spell r ++ rest) ≡ true
+  rule_begins : (seen : List Rule) (r : Rule) (rest : Words) → (rule scope seen).Good r →
+      next_is (codes "rule") ((rule scope seen).spell r ++ rest) ≡ true
   unfolding rule
   rule_begins seen r rest good = refl
 
-  rule_ends : (seen : List Rule) (r : Rule) (rest : Words) → (rule scope seen).Good r → EndsRule ((rule scope seen).spell r ++ rest)
+  rule_ends : (seen : List Rule) (r : Rule) (rest : Words) → (rule scope seen).Good r →
+      EndsRule ((rule scope seen).spell r ++ rest)
   unfolding rule
   rule_ends seen r rest good = refl
 
@@ -234,9 +291,12 @@ module _ (scope : Scope) (is : IsScope scope) where
   ends_both : (rest : Words) → Closes rest → (next_is (codes "rule") rest ≡ false) × EndsRule rest
   ends_both [] h = absurd cc
   ends_both (v ∷ vs) h =
-      let e = same_bytes v (codes "end") h in
-      (ap (λ (w : Word). bytes_eq w (codes "rule")) e, ap (λ (w : Word). not (bytes_eq w (codes "rule") || bytes_eq w (codes "end"))) e)
+      let e = same_bytes v (codes "end") h in (
+        ap (λ (w : Word). bytes_eq w (codes "rule")) e,
+        ap (λ (w : Word). not (bytes_eq w (codes "rule") || bytes_eq w (codes "end"))) e,
+      )
 
+  -- rules are read exactly as they are spelled, up to `end`
   pub rules_law : IsExact (rules scope) Closes
   unfolding rules
   rules_law = repeat_law rule_law (next_is (codes "rule")) rule_moves ends_both rule_begins rule_ends

@@ -10,11 +10,13 @@ use Rattle.am_problem.specs.Grammar.{has_name, made, names_of}
 use Rattle.am_syntax.specs.Readers.{Word}
 use Rattle.am_problem.specs.StoredLines.{seen_production, seen_rule, seen_rules}
 
-pub any_seen : (rules : List StoredRule) (v : Word) → has_name (names_of (seen_rules rules)) v ≡ list_any (λ (rule : StoredRule). bytes_eq v rule.name.now) rules
+pub any_seen : (rules : List StoredRule) (v : Word)
+    → has_name (names_of (seen_rules rules)) v ≡ list_any (λ (rule : StoredRule). bytes_eq v rule.name.now) rules
 any_seen [] v = refl
 any_seen (r ∷ rules) v = ap (λ b. bytes_eq v r.name.now || b) (any_seen rules v)
 
-pub made_seen : (rules : List StoredRule) → made (seen_rules rules) ≡ sum_by (λ (rule : StoredRule). length rule.productions) rules
+pub made_seen : (rules : List StoredRule)
+    → made (seen_rules rules) ≡ sum_by (λ (rule : StoredRule). length rule.productions) rules
 made_seen [] = refl
 made_seen (r ∷ rules) =
     sum_by-cons (λ (r : Rule). length r.productions) (seen_rule r) (seen_rules rules)
@@ -28,4 +30,5 @@ length_seen rules = length-map rules seen_rule
 pub length_productions : (ps : List StoredProduction) → length (map seen_production ps) ≡ length ps
 length_productions ps = length-map ps seen_production
 
+-- what is looked up and counted in rules in memory is that of the rules as plain data
 pub ruleset seen = (any_seen, made_seen, length_seen, length_productions)

@@ -16,8 +16,10 @@ few_powers (suc (suc (suc (suc (suc n))))) h = absurd (omega (arith, h))
 
 -- a domain's term for validity has at most 65,536 nodes
 pub small_valid : (kind : Kind) (w : ℕ) → IsWidth w → nodes (valid_term_of kind w) ≤ 65536
-small_valid kind w width = omega (arith, ((laws_of kind).tells_validity w width).small, few_powers _ (laws_of kind).few_fields)
+small_valid kind w width =
+    omega (arith, ((laws_of kind).tells_validity w width).small, few_powers _ (laws_of kind).few_fields)
 
 -- a domain's term for membership has at most 65,536 nodes
 pub small_member : (kind : Kind) (w : ℕ) → IsWidth w → nodes (member_term_of kind w) ≤ 65536
-small_member kind w width = omega (arith, ((laws_of kind).tells_membership w width).small, few_powers _ (laws_of kind).few_fields)
+small_member kind w width =
+    omega (arith, ((laws_of kind).tells_membership w width).small, few_powers _ (laws_of kind).few_fields)

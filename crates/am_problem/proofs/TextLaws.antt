@@ -1,5 +1,6 @@
 -- A text is a problem's exactly where that problem is read from it, and else it has a first refusal.
-use Rattle.std.proofs.Common.{◌≡◌, ℕ, Bool, true, false, cond, nat_lt, List, [], Option, Some, None, Result, Ok, Err, ap, subst, ◌∙◌, sym, refl, inl, inr}
+use Rattle.std.proofs.Common.{◌≡◌, ℕ, Bool, true, false, cond, nat_lt, List, [], Option, Some, None, Result, Ok, Err}
+use Rattle.std.proofs.Common.{ap, subst, ◌∙◌, sym, refl, inl, inr}
 use Rattle.std.specs.Prelude.{IfErr, IfOk}
 use Rattle.std.proofs.lemmas.Bool.{ltb-false, le-ltb}
 use Rattle.std.proofs.lemmas.List.{append-nil}
@@ -10,13 +11,13 @@ use Rattle.am_syntax.specs.declared.refusal.ReadError.{ReadError}
 use Rattle.am_syntax.specs.declared.refusal.ReadError.TheVariants.{NoMemory, Refused}
 use Rattle.am_syntax.specs.declared.refusal.Refusal.{Refusal}
 use Rattle.am_syntax.specs.declared.refusal.Refusal.TheVariants.{Load, Slots}
-use Rattle.am_problem.specs.declared.limits.TheConstants.{MOST_LOAD, MOST_SLOTS}
 use Rattle.am_problem.specs.Grammar.{names_of, problem}
 use Rattle.am_problem.specs.Limits.{IsFormed, IsProblem, slots_of}
 use Rattle.am_problem.specs.Lines.{Lines}
 use Rattle.am_problem.specs.Loads.{load_of}
 use Rattle.am_problem.specs.Problem.{Problem}
-use Rattle.am_problem.specs.Texts.{IfRefused, IsSettledProblem, Reads, all_settled, drafted, named, numbered, problem_of, settled_by, sized, undefined_in}
+use Rattle.am_problem.specs.Texts.{IfRefused, IsOneProblem, IsProblemText, IsSettledProblem, Reads, all_settled, drafted, named}
+use Rattle.am_problem.specs.Texts.{numbered, problem_of, settled_by, sized, undefined_in}
 use Rattle.am_problem.proofs.Formed.{formed_of, lines_of_formed}
 use Rattle.am_problem.proofs.LineLaws.{problem_law}
 use Rattle.am_problem.proofs.LineLimits.{lines_back, lines_good}
@@ -26,17 +27,22 @@ use Rattle.am_problem.proofs.Undefined.{comes, lines_past, none_comes, none_foun
 -- ---- lines whose names are known
 
 -- lines of which no name is undefined are those of a problem
-pub formed_lines : (l : Lines) (s t : Left) → problem.read s ≡ Ok (l, t) → undefined_in (names_of l.rules) s.tokens ≡ None → IsFormed (numbered l)
+pub formed_lines : (l : Lines) (s t : Left) → problem.read s ≡ Ok (l, t) →
+    undefined_in (names_of l.rules) s.tokens ≡ None →
+    IsFormed (numbered l)
 formed_lines l s t read defined =
     let taken = problem_law.takes s l t read in
     let none = none_comes (names_of l.rules) s.tokens defined in
     let known = known_lines (names_of l.rules) l
-    (sym (lines_past (names_of l.rules) l (words t) taken.1) ∙ ap (comes (names_of l.rules)) (sym (Takes-words s (problem.spell l) t taken.0)) ∙ none) in
+    (sym (lines_past (names_of l.rules) l (words t) taken.1)
+    ∙ ap (comes (names_of l.rules)) (sym (Takes-words s (problem.spell l) t taken.0)) ∙ none) in
     formed_of l (lines_good l taken.1) known
 
 -- ---- the last refusals
 
-sized_parts : (p q : Problem) (many heavy : Bool) → ◌≡◌ {A = Result Problem Refusal} (cond many (Err (Slots (slots_of p))) (cond heavy (Err (Load (load_of p))) (Ok p))) (Ok q) →
+sized_parts : (p q : Problem) (many heavy : Bool) →
+    ◌≡◌ {A = Result Problem Refusal}
+    (cond many (Err (Slots (slots_of p))) (cond heavy (Err (Load (load_of p))) (Ok p))) (Ok q) →
     (many ≡ false) × (heavy ≡ false) × (p ≡ q)
 sized_parts p q true heavy h = absurd cc
 sized_parts p q false true h = absurd cc
@@ -45,29 +51,34 @@ sized_parts p q false false h = (refl, refl, cc)
 -- a problem within the limits of slots and load is the one that was tested
 pub sized_ok : (p q : Problem) → sized p ≡ Ok q → IsFormed p → IsProblem q × (p ≡ q)
 sized_ok p q h formed =
-    let k = sized_parts p q (nat_lt MOST_SLOTS (slots_of p)) (nat_lt MOST_LOAD (load_of p)) h in
+    let k = sized_parts p q (nat_lt 256 (slots_of p)) (nat_lt 16777216 (load_of p)) h in
     (subst IsProblem k.2 (record { formed = formed; slots = ltb-false _ _ k.0; load = ltb-false _ _ k.1 }), k.2)
 
 -- a problem within all limits passes
 pub sized_back : (p : Problem) → IsProblem p → sized p ≡ Ok p
 sized_back p is =
-    ap (λ b. cond b (Err (Slots (slots_of p))) (cond (nat_lt MOST_LOAD (load_of p)) (Err (Load (load_of p))) (Ok p))) (le-ltb _ _ is.slots)
+    ap (λ b. cond b (Err (Slots (slots_of p))) (cond (nat_lt 16777216 (load_of p)) (Err (Load (load_of p))) (Ok p)))
+    (le-ltb _ _ is.slots)
     ∙ ap (λ b. cond b (Err (Load (load_of p))) (Ok p)) (le-ltb _ _ is.load)
 
 -- ---- a problem and its text
 
 -- where a draft settles to a problem, no name was undefined, and its lines are within the limits
-pub settled_ok : (l : Lines) (p : Problem) (place : Option ℕ) → settled_by l place ≡ Ok p → (place ≡ None) × (sized (numbered l) ≡ Ok p)
+pub settled_ok : (l : Lines) (p : Problem) (place : Option ℕ) → settled_by l place ≡ Ok p →
+    (place ≡ None) × (sized (numbered l) ≡ Ok p)
 settled_ok l p (Some place) h = absurd cc
 settled_ok l p None h = (refl, h)
 
 -- the lines of a text of which no name is undefined are those of a problem
-pub formed_text : (l : Lines) (text : List ℕ) → text_value problem text ≡ Ok l → undefined_in (names_of l.rules) (tokens_at 0 text) ≡ None → IsFormed (numbered l)
+pub formed_text : (l : Lines) (text : List ℕ) → text_value problem text ≡ Ok l →
+    undefined_in (names_of l.rules) (tokens_at 0 text) ≡ None →
+    IsFormed (numbered l)
 formed_text l text value defined =
     let is = text_found problem_law text l value in
     let names = names_of l.rules in
     let past = ap (comes names) (sym (append-nil (problem.spell l))) ∙ lines_past names l [] is.good in
-    formed_of l (lines_good l is.good) (known_lines names l (sym past ∙ ap (comes names) (sym is.spelled) ∙ none_comes names (tokens_at 0 text) defined))
+    formed_of l (lines_good l is.good)
+    (known_lines names l (sym past ∙ ap (comes names) (sym is.spelled) ∙ none_comes names (tokens_at 0 text) defined))
 
 record IsFound (text : List ℕ) (p : Problem) : Type 0 where
   lines : Lines
@@ -75,7 +86,9 @@ record IsFound (text : List ℕ) (p : Problem) : Type 0 where
   defined : undefined_in (names_of lines.rules) (tokens_at 0 text) ≡ None
   fits : sized (numbered lines) ≡ Ok p
 
-found_in : (text : List ℕ) (p : Problem) (value : Result Lines Refusal) → text_value problem text ≡ value → all_settled (drafted text value) ≡ Ok p → IsFound text p
+found_in : (text : List ℕ) (p : Problem) (value : Result Lines Refusal) → text_value problem text ≡ value →
+    all_settled (drafted text value) ≡ Ok p →
+    IsFound text p
 found_in text p (Ok l) e h =
     let k = settled_ok l p (undefined_in (names_of l.rules) (tokens_at 0 text)) h in
     record { lines = l; is_text = e; defined = k.0; fits = k.1 }
@@ -88,7 +101,8 @@ reads_from text p h =
     let is = text_found problem_law text l found.is_text in
     let names = names_of l.rules in
     let none = none_comes names (tokens_at 0 text) found.defined in
-    let past : comes names (problem.spell l) ≡ _ = ap (comes names) (sym (append-nil (problem.spell l))) ∙ lines_past names l [] is.good in
+    let past : comes names (problem.spell l) ≡ _ =
+    ap (comes names) (sym (append-nil (problem.spell l))) ∙ lines_past names l [] is.good in
     let known = known_lines names l (sym past ∙ ap (comes names) (sym is.spelled) ∙ none) in
     let sized = sized_ok (numbered l) p found.fits (formed_of l (lines_good l is.good) known) in
     record {
@@ -104,30 +118,49 @@ reads_to text p reads =
     let good = lines_back l (lines_of_formed p reads.limits.formed) in
     let known = known_named p reads.limits.formed in
     let is : IsTextOf problem text l = record { allowed = reads.allowed; spelled = reads.spelled; good = good } in
-    let past = ap (comes names) (sym (append-nil (problem.spell l))) ∙ lines_past names l [] good ∙ none_missing_lines l known in
+    let past =
+    ap (comes names) (sym (append-nil (problem.spell l))) ∙ lines_past names l [] good ∙ none_missing_lines l known in
     let defined = none_found names (tokens_at 0 text) (ap (comes names) reads.spelled ∙ past) in
     ap (λ value. all_settled (drafted text value)) (text_read problem_law tt text l is)
     ∙ ap (settled_by l) defined
     ∙ ap sized (problem_again p reads.limits.formed)
     ∙ sized_back p reads.limits
 
-settled_so : (text : List ℕ) (answer : Result Problem Refusal) → problem_of text ≡ answer → IsSettledProblem text
-settled_so text (Ok p) e = inl (p, reads_from text p e, λ r h. let f : ◌≡◌ {A = Result Problem Refusal} (Ok p) (Err r) = sym e ∙ h in cc)
-settled_so text (Err r) e = inr (r, e, λ p reads. let f : ◌≡◌ {A = Result Problem Refusal} (Err r) (Ok p) = sym e ∙ reads_to text p reads in cc)
+-- a text is one problem's
+pub one_problem : (text : List ℕ) → IsOneProblem text
+one_problem text p q own other =
+    let same : ◌≡◌ {A = Result Problem Refusal} (Ok p) (Ok q) = sym (reads_to text p own) ∙ reads_to text q other in
+    cc
 
+settled_so : (text : List ℕ) (answer : Result Problem Refusal) → problem_of text ≡ answer → IsSettledProblem text
+settled_so text (Ok p) e = inl
+    (p, reads_from text p e, λ r h. let f : ◌≡◌ {A = Result Problem Refusal} (Ok p) (Err r) = sym e ∙ h in cc)
+settled_so text (Err r) e = inr
+    (r, e, λ p reads. let f : ◌≡◌ {A = Result Problem Refusal} (Err r) (Ok p) = sym e ∙ reads_to text p reads in cc)
+
+-- each text is a problem's or has a first refusal
 pub all_texts_settled : (text : List ℕ) → IsSettledProblem text
 all_texts_settled text = settled_so text (problem_of text) refl
 
 -- ---- what an exact answer says
 
-pub found_by : (text : List ℕ) (result : Result Problem ReadError) → Answers (λ p. p) result (problem_of text) → IfOk result (λ p. Reads text p)
+-- what is answered exactly is the text's problem
+pub found_by : (text : List ℕ) (result : Result Problem ReadError) → Answers (λ p. p) result (problem_of text) →
+    IfOk result (λ p. Reads text p)
 found_by text (Ok p) h = reads_from text p h
 found_by text (Err e) h = tt
 
-pub only_by : (text : List ℕ) (result : Result Problem ReadError) → Answers (λ p. p) result (problem_of text) → (p : Problem) → Reads text p → Answers (λ p. p) result (Ok p)
-only_by text result h p reads = subst (Answers (λ p. p) result) (reads_to text p reads) h
+-- the text of a problem is refused for want of memory alone
+pub only_by : (text : List ℕ) (result : Result Problem ReadError) → Answers (λ p. p) result (problem_of text) →
+    IsProblemText text → IfErr result (λ e. e ≡ NoMemory)
+only_by text (Ok p) h is = tt
+only_by text (Err (Refused r)) h is =
+    absurd (let f : ◌≡◌ {A = Result Problem Refusal} (Err r) (Ok is.0) = sym h ∙ reads_to text is.0 is.1 in cc)
+only_by text (Err NoMemory) h is = refl
 
-pub first_by : (text : List ℕ) (result : Result Problem ReadError) → Answers (λ p. p) result (problem_of text) → IfErr result (λ e. IfRefused e (λ r. problem_of text ≡ Err r))
+-- a refusal that is answered is the first
+pub first_by : (text : List ℕ) (result : Result Problem ReadError) → Answers (λ p. p) result (problem_of text) →
+    IfErr result (λ e. IfRefused e (λ r. problem_of text ≡ Err r))
 first_by text (Ok p) h = tt
 first_by text (Err (Refused r)) h = h
 first_by text (Err NoMemory) h = tt

@@ -1,5 +1,7 @@
 -- The names in the words of lines: which of them come before the lines' end, and whether rules have them.
-use Rattle.std.proofs.Common.{◌≡◌, ℕ, ◌-◌, ◌*◌, ◌<◌, ◌^◌, Bool, true, false, cond, not, ◌&&◌, ◌||◌, List, [], ◌∷◌, ◌++◌, length, flat_map, decimal, codes, Option, Some, None, bytes_eq, append_assoc, ap, subst, refl, sym, ◌∙◌, arith}
+use Rattle.std.proofs.Common.{◌≡◌, ℕ, ◌-◌, ◌*◌, ◌<◌, ◌^◌, Bool, true, false, cond, not, ◌&&◌, ◌||◌, List, [], ◌∷◌, ◌++◌}
+use Rattle.std.proofs.Common.{length, flat_map, decimal, codes, Option, Some, None, bytes_eq, append_assoc, ap, subst}
+use Rattle.std.proofs.Common.{refl, sym, ◌∙◌, arith}
 use Rattle.std.specs.List.{AllByRecursion, list_all, list_any}
 use Rattle.std.specs.Prelude.{IsTrue}
 use Rattle.std.proofs.lemmas.Bool.{and_parts, ltb-true}
@@ -9,7 +11,8 @@ use Rattle.am_bv.specs.Terms.{fits}
 use Rattle.am_bv.specs.declared.op.Op.{Op}
 use Rattle.am_bv.specs.declared.op.Op.TheVariants.{Not}
 use Rattle.am_bv.specs.declared.term.Term.{Term}
-use Rattle.am_syntax.proofs.Laws.{decimal-is_digits, digits_apart, narrow, same_bytes, words-Const, words-Field, words-Node}
+use Rattle.am_syntax.proofs.Laws.{decimal-is_digits, digits_apart, narrow, same_bytes, words-Const, words-Field}
+use Rattle.am_syntax.proofs.Laws.{words-Node}
 use Rattle.am_syntax.specs.Exact.{words_in}
 use Rattle.am_syntax.specs.Names.{op_name, operator}
 use Rattle.am_syntax.specs.Numerals.{is_digits, is_name}
@@ -20,8 +23,9 @@ use Rattle.am_syntax.specs.declared.limits.Letter.{Letter}
 use Rattle.am_syntax.specs.declared.limits.Letter.TheVariants.{X, F}
 use Rattle.am_problem.specs.declared.kind.Kind.{Kind}
 use Rattle.am_problem.specs.declared.kind.Kind.TheVariants.{UInterval}
-use Rattle.am_tree.specs.declared.grammar.TheConstants.{MOST_PRODUCTIONS}
-use Rattle.am_problem.specs.Grammar.{budgets, domain, has_name, header, made, name_before, node_production, opening, problem, production, productions, rule, rule_name, rules, scope_at, small_term, starts}
+use Rattle.am_problem.specs.Grammar.{budgets, domain, has_name, header, made, name_before, node_production, opening}
+use Rattle.am_problem.specs.Grammar.{problem, production, productions, rule, rule_name, rules, scope_at, small_term}
+use Rattle.am_problem.specs.Grammar.{starts}
 use Rattle.am_problem.specs.Kinds.{fields_of, kind_name}
 use Rattle.am_problem.specs.Lines.{Budgets, Header, Lines, Production, Rule, leaf, node}
 use Rattle.am_problem.specs.Texts.{is_undefined, undefined_in}
@@ -35,25 +39,35 @@ abbrev pub comes : List Word → Words → Bool
 comes names [] = false
 comes names (v ∷ vs) = cond (bytes_eq v (codes "end")) false (is_undefined names v || comes names vs)
 
-none_step : (stops here : Bool) (place : ℕ) (later : Option ℕ) (more : Bool) → cond stops None (cond here (Some place) later) ≡ None →
+none_step : (stops here : Bool) (place : ℕ) (later : Option ℕ) (more : Bool) →
+    cond stops None (cond here (Some place) later) ≡ None →
     (later ≡ None → more ≡ false) → cond stops false (here || more) ≡ false
 none_step true here place later more h next = refl
 none_step false true place later more h next = absurd (let f : ◌≡◌ {A = Option ℕ} (Some place) None = h in cc)
 none_step false false place later more h next = next h
 
-pub none_comes : (names : List Word) (tokens : List Placed) → undefined_in names tokens ≡ None → comes names (words_in tokens) ≡ false
+-- where no undefined name is found, none comes before `end`
+pub none_comes : (names : List Word) (tokens : List Placed) → undefined_in names tokens ≡ None →
+    comes names (words_in tokens) ≡ false
 none_comes names [] h = refl
-none_comes names (t ∷ ts) h = none_step (bytes_eq t.word (codes "end")) (is_undefined names t.word) t.place (undefined_in names ts) _ h (none_comes names ts)
+none_comes names (t ∷ ts) h =
+    none_step (bytes_eq t.word (codes "end")) (is_undefined names t.word) t.place (undefined_in names ts) _ h
+    (none_comes names ts)
 
-found_step : (stops here : Bool) (place : ℕ) (later : Option ℕ) (more : Bool) → cond stops false (here || more) ≡ false →
+found_step : (stops here : Bool) (place : ℕ) (later : Option ℕ) (more : Bool) →
+    cond stops false (here || more) ≡ false →
     (more ≡ false → later ≡ None) → cond stops None (cond here (Some place) later) ≡ None
 found_step true here place later more h next = refl
 found_step false true place later more h next = absurd cc
 found_step false false place later more h next = next h
 
-pub none_found : (names : List Word) (tokens : List Placed) → comes names (words_in tokens) ≡ false → undefined_in names tokens ≡ None
+-- where no undefined name comes before `end`, none is found
+pub none_found : (names : List Word) (tokens : List Placed) → comes names (words_in tokens) ≡ false →
+    undefined_in names tokens ≡ None
 none_found names [] h = refl
-none_found names (t ∷ ts) h = found_step (bytes_eq t.word (codes "end")) (is_undefined names t.word) t.place (undefined_in names ts) _ h (none_found names ts)
+none_found names (t ∷ ts) h =
+    found_step (bytes_eq t.word (codes "end")) (is_undefined names t.word) t.place (undefined_in names ts) _ h
+    (none_found names ts)
 
 -- ---- words without names
 
@@ -97,11 +111,13 @@ quiet_variable F i = record { no_name = refl; no_end = refl }
 abbrev IsQuietTerm : Scope → Term → Type 0
 IsQuietTerm scope t = fits scope.width scope.variables t ≡ true → AreQuiet (term_words (letter_code scope.letter) t)
 
-quiet_arguments : (scope : Scope) (ts : List Term) → AllByRecursion (IsQuietTerm scope) ts → list_all (fits scope.width scope.variables) ts ≡ true →
+quiet_arguments : (scope : Scope) (ts : List Term) → AllByRecursion (IsQuietTerm scope) ts →
+    list_all (fits scope.width scope.variables) ts ≡ true →
     AreQuiet (flat_map (term_words (letter_code scope.letter)) ts)
 quiet_arguments scope [] h fit = tt
 quiet_arguments scope (t ∷ ts) h fit =
-    quiet_both (term_words (letter_code scope.letter) t) _ (h.0 (and_parts _ _ fit).0) (quiet_arguments scope ts h.1 (and_parts _ _ fit).1)
+    quiet_both (term_words (letter_code scope.letter) t) _ (h.0 (and_parts _ _ fit).0)
+    (quiet_arguments scope ts h.1 (and_parts _ _ fit).1)
 
 quiet_term : (scope : Scope) → IsScope scope → (t : Term) → IsQuietTerm scope t
 quiet_term scope is = by_induction (IsQuietTerm scope) (record {
@@ -113,8 +129,14 @@ quiet_term scope is = by_induction (IsQuietTerm scope) (record {
       let each = (and_parts _ _ (sym (fits-Node scope.width scope.variables op ts) ∙ fit)).1 in
       let parenthesis : Quiet (codes "(") = record { no_name = refl; no_end = refl } in
       let closing : Quiet (codes ")") = record { no_name = refl; no_end = refl } in
-      subst AreQuiet (sym (words-Node (letter_code scope.letter) op ts))
-      (parenthesis, (quiet_operator op, quiet_both (flat_map (term_words (letter_code scope.letter)) ts) (codes ")" ∷ []) (quiet_arguments scope ts h each) (closing, tt)));
+      subst AreQuiet (sym (words-Node (letter_code scope.letter) op ts)) (
+        parenthesis,
+        (
+          quiet_operator op,
+          quiet_both (flat_map (term_words (letter_code scope.letter)) ts) (codes ")" ∷ [])
+              (quiet_arguments scope ts h each) (closing, tt),
+        ),
+      );
 })
 
 -- ---- names
@@ -131,52 +153,69 @@ or_again false b c = refl
 abbrev pub missing : List Word → List Word → Bool
 missing names vs = list_any (λ v. not (has_name names v)) vs
 
-name_past : (names : List Word) (v : Word) (ws : Words) → is_name v ≡ true → comes names (v ∷ ws) ≡ (not (has_name names v) || comes names ws)
+name_past : (names : List Word) (v : Word) (ws : Words) → is_name v ≡ true →
+    comes names (v ∷ ws) ≡ (not (has_name names v) || comes names ws)
 name_past names v ws name =
     ap (λ b. cond b false (is_undefined names v || comes names ws)) (name_no_end v name (bytes_eq v (codes "end")) refl)
     ∙ ap (λ b. (b && not (has_name names v)) || comes names ws) name
 
-names_past : (names vs : List Word) (ws : Words) → AllByRecursion (λ v. IsTrue (is_name v)) vs → comes names (vs ++ ws) ≡ (missing names vs || comes names ws)
+names_past : (names vs : List Word) (ws : Words) → AllByRecursion (λ v. IsTrue (is_name v)) vs →
+    comes names (vs ++ ws) ≡ (missing names vs || comes names ws)
 names_past names [] ws h = refl
 names_past names (v ∷ vs) ws h =
     name_past names v (vs ++ ws) h.0
     ∙ ap (λ b. not (has_name names v) || b) (names_past names vs ws h.1)
     ∙ or_again (not (has_name names v)) (missing names vs) (comes names ws)
 
+-- names are spelled as they are
 pub names_spelled : (word : Word) (seen vs : List Word) → spelled_from (λ _. name_before word) seen vs ≡ vs
 unfolding name_or
 names_spelled word seen [] = refl
 names_spelled word seen (v ∷ vs) = ap (λ ws. v ∷ ws) (names_spelled word (seen ++ v ∷ []) vs)
 
-names_good : (word : Word) (seen vs : List Word) → good_from (λ _. name_before word) seen vs → AllByRecursion (λ v. IsTrue (is_name v)) vs
+names_good : (word : Word) (seen vs : List Word) → good_from (λ _. name_before word) seen vs →
+    AllByRecursion (λ v. IsTrue (is_name v)) vs
 unfolding name_or
 names_good word seen [] good = tt
 names_good word seen (v ∷ vs) good = (good.0, names_good word (seen ++ v ∷ []) vs good.1)
 
 -- ---- productions and rules
 
+-- whether a nonterminal of a production has no rule
 abbrev pub missing_in : List Word → Production → Bool
 missing_in names (leaf t) = false
 missing_in names (node op args) = missing names args
 
-production_past : (scope : Scope) → IsScope scope → (room : ℕ) (names : List Word) (p : Production) (ws : Words) → (production scope room).Good p →
+production_past : (scope : Scope) → IsScope scope → (room : ℕ) (names : List Word) (p : Production) (ws : Words) →
+    (production scope room).Good p →
     comes names ((production scope room).spell p ++ ws) ≡ (missing_in names p || comes names ws)
 unfolding production node_production opening operator
-production_past scope is room names (leaf t) ws good = quiet_past names (term_words (letter_code scope.letter) t) ws (quiet_term scope is t good.fit)
+production_past scope is room names (leaf t) ws good =
+    quiet_past names (term_words (letter_code scope.letter) t) ws (quiet_term scope is t good.fit)
 production_past scope is room names (node op args) ws good =
     let quiet = quiet_operator op in
-    ap (λ b. cond b false (is_undefined names (op_name op) || comes names ((spelled_from (λ _. name_before (codes ")")) [] args ++ codes ")" ∷ []) ++ ws))) quiet.no_end
-    ∙ ap (λ b. (b && not (has_name names (op_name op))) || comes names ((spelled_from (λ _. name_before (codes ")")) [] args ++ codes ")" ∷ []) ++ ws)) quiet.no_name
+    ap
+    (λ b. cond b false
+    (is_undefined names (op_name op)
+    || comes names ((spelled_from (λ _. name_before (codes ")")) [] args ++ codes ")" ∷ []) ++ ws)))
+    quiet.no_end
+    ∙ ap
+    (λ b. (b && not (has_name names (op_name op)))
+    || comes names ((spelled_from (λ _. name_before (codes ")")) [] args ++ codes ")" ∷ []) ++ ws))
+    quiet.no_name
     ∙ ap (λ (vs : Words). comes names ((vs ++ codes ")" ∷ []) ++ ws)) (names_spelled (codes ")") [] args)
     ∙ ap (comes names) (append_assoc args (codes ")" ∷ []) ws)
     ∙ names_past names args (codes ")" ∷ ws) (names_good (codes ")") [] args good.1.1.1)
 
+-- whether one of these productions has such a nonterminal
 abbrev pub missing_among : List Word → List Production → Bool
 missing_among names ps = list_any (missing_in names) ps
 
-productions_past : (scope : Scope) → IsScope scope → (room : ℕ) (names : List Word) (seen ps : List Production) (ws : Words) →
+productions_past : (scope : Scope) → IsScope scope →
+    (room : ℕ) (names : List Word) (seen ps : List Production) (ws : Words) →
     good_from (λ before. production scope (room - length before)) seen ps →
-    comes names (spelled_from (λ before. production scope (room - length before)) seen ps ++ ws) ≡ (missing_among names ps || comes names ws)
+    comes names (spelled_from (λ before. production scope (room - length before)) seen ps ++ ws)
+    ≡ (missing_among names ps || comes names ws)
 productions_past scope is room names seen [] ws good = refl
 productions_past scope is room names seen (p ∷ ps) ws good =
     let item = λ (before : List Production). production scope (room - length before) in
@@ -185,21 +224,28 @@ productions_past scope is room names seen (p ∷ ps) ws good =
     ∙ ap (λ b. missing_in names p || b) (productions_past scope is room names (seen ++ p ∷ []) ps ws good.1)
     ∙ or_again (missing_in names p) (missing_among names ps) (comes names ws)
 
+-- whether a rule's name or a nonterminal in its productions has no rule
 abbrev pub missing_rule : List Word → Rule → Bool
 missing_rule names r = not (has_name names r.name) || missing_among names r.productions
 
+-- whether one of these rules has such a name
 abbrev pub missing_rules : List Word → List Rule → Bool
 missing_rules names rs = list_any (missing_rule names) rs
 
-rule_past : (scope : Scope) → IsScope scope → (names : List Word) (seen : List Rule) (r : Rule) (ws : Words) → (rule scope seen).Good r →
+rule_past : (scope : Scope) → IsScope scope → (names : List Word) (seen : List Rule) (r : Rule) (ws : Words) →
+    (rule scope seen).Good r →
     comes names ((rule scope seen).spell r ++ ws) ≡ (missing_rule names r || comes names ws)
 unfolding rule rule_name productions
 rule_past scope is names seen r ws good =
-    name_past names r.name (spelled_from (λ (before : List Production). production scope (MOST_PRODUCTIONS - made seen - length before)) [] r.productions ++ ws) good.0.0
+    name_past names r.name
+    (spelled_from (λ (before : List Production). production scope (64 - made seen - length before)) [] r.productions
+    ++ ws)
+    good.0.0
     ∙ ap (λ b. not (has_name names r.name) || b) (productions_past scope is _ names [] r.productions ws good.1)
     ∙ or_again (not (has_name names r.name)) (missing_among names r.productions) (comes names ws)
 
-rules_past : (scope : Scope) → IsScope scope → (names : List Word) (seen rs : List Rule) (ws : Words) → good_from (rule scope) seen rs →
+rules_past : (scope : Scope) → IsScope scope → (names : List Word) (seen rs : List Rule) (ws : Words) →
+    good_from (rule scope) seen rs →
     comes names (spelled_from (rule scope) seen rs ++ ws) ≡ (missing_rules names rs || comes names ws)
 rules_past scope is names seen [] ws good = refl
 rules_past scope is names seen (r ∷ rs) ws good =
@@ -234,7 +280,8 @@ quiet_header h good =
               operation,
               (
                 quiet_number h.inputs (omega (arith, good.1.1.0.1)),
-                quiet_both (term_words (letter_code X) h.operation) _ (quiet_term scope is h.operation good.1.1.1.0.fit) (quiet_assume scope is h.assume good.1.1.1.1),
+                quiet_both (term_words (letter_code X) h.operation) _ (quiet_term scope is h.operation good.1.1.1.0.fit)
+                    (quiet_assume scope is h.assume good.1.1.1.1),
               ),
             ),
           ),
@@ -247,10 +294,22 @@ unfolding budgets number
 quiet_budgets b good =
     let depth : Quiet (codes "depth") = record { no_name = refl; no_end = refl } in
     let turns : Quiet (codes "turns") = record { no_name = refl; no_end = refl } in
-    let conflicts : Quiet (codes "conflicts") = record { no_name = refl; no_end = refl } in
-    (depth, (quiet_number b.depth (omega (arith, good.0.1)), (turns, (quiet_number b.turns (omega (arith, good.1.0.1)), (conflicts, (quiet_number b.conflicts (omega (arith, good.1.1.1)), tt))))))
+    let conflicts : Quiet (codes "conflicts") = record { no_name = refl; no_end = refl } in (
+      depth,
+      (
+        quiet_number b.depth (omega (arith, good.0.1)),
+        (
+          turns,
+          (
+            quiet_number b.turns (omega (arith, good.1.0.1)),
+            (conflicts, (quiet_number b.conflicts (omega (arith, good.1.1.1)), tt)),
+          ),
+        ),
+      ),
+    )
 
-starts_past : (names : List Word) (k : ℕ) (vs : List Word) (ws : Words) → (starts k).Good vs → comes names ((starts k).spell vs ++ ws) ≡ (missing names vs || comes names ws)
+starts_past : (names : List Word) (k : ℕ) (vs : List Word) (ws : Words) → (starts k).Good vs →
+    comes names ((starts k).spell vs ++ ws) ≡ (missing names vs || comes names ws)
 unfolding starts
 starts_past names k vs ws good =
     ap (λ (us : Words). comes names (us ++ ws)) (names_spelled (codes "depth") [] vs)
@@ -268,7 +327,8 @@ or_false true = refl
 or_false false = refl
 
 -- what comes before the end of lines
-pub lines_past : (names : List Word) (l : Lines) (rest : Words) → problem.Good l → comes names (problem.spell l ++ rest) ≡ missing_lines names l
+pub lines_past : (names : List Word) (l : Lines) (rest : Words) → problem.Good l →
+    comes names (problem.spell l ++ rest) ≡ missing_lines names l
 unfolding problem domain rules
 lines_past names l rest good =
     let scope = scope_at l.header.width F (l.header.inputs * fields_of l.kind) in

@@ -65,6 +65,7 @@ pub record HoldsNegative (p : Problem) (e : Negative) (stored : StoredNegative) 
 abbrev pub stored_positive : Positive → StoredPositive
 stored_positive e = record { inputs = concat e.inputs; words = e.words }
 
+-- the stored form of a negative example
 abbrev pub stored_negative : Negative → StoredNegative
 stored_negative e = record { inputs = concat e.inputs; word = e.word }
 

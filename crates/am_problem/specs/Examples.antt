@@ -49,11 +49,14 @@ pub record IsNegative (p : Problem) (e : StoredNegative) : Type 0 where
 abbrev pub positive_of : Problem → StoredPositive → Positive
 positive_of p e = record { inputs = inputs_of p e.inputs; words = e.words }
 
+-- the negative example that a stored one stands for
 abbrev pub negative_of : Problem → StoredNegative → Negative
 negative_of p e = record { inputs = inputs_of p e.inputs; word = e.word }
 
+-- the positive examples that stored ones stand for
 abbrev pub positives_of : Problem → List StoredPositive → List Positive
 positives_of p es = map (positive_of p) es
 
+-- the negative examples that stored ones stand for
 abbrev pub negatives_of : Problem → List StoredNegative → List Negative
 negatives_of p es = map (negative_of p) es

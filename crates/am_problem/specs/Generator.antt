@@ -20,27 +20,35 @@ use Rattle.am_problem.specs.Problem.{Problem, question_of}
 -- ---- what a number chooses: a width, a domain, an operation and a depth by its digits, and four operators by the
 -- digits of what is left
 
+-- the domains of made problems
 abbrev pub made_kinds : List Kind
 made_kinds = UInterval ∷ SInterval ∷ KnownBits ∷ Parity ∷ Congruence ∷ []
 
+-- their operations
 abbrev pub made_operations : List Op
 made_operations = Add ∷ Sub ∷ And ∷ Or ∷ Xor ∷ Mul ∷ Umin ∷ Umax ∷ Shl ∷ Lshr ∷ Udiv ∷ Urem ∷ []
 
+-- the operators of their grammars
 abbrev pub made_operators : List Op
 made_operators = And ∷ Or ∷ Xor ∷ Add ∷ Sub ∷ Umin ∷ Umax ∷ Smin ∷ []
 
+-- the width is the digit to base 7, from 2
 abbrev pub made_width : ℕ → ℕ
 made_width n = 2 + n % 7
 
+-- the domain is the next digit, to base 5
 abbrev pub made_kind : ℕ → Kind
 made_kind n = slice_index_or made_kinds (n / 7 % 5) UInterval
 
+-- the operation is the next digit, to base 12
 abbrev pub made_operation : ℕ → Op
 made_operation n = slice_index_or made_operations (n / 35 % 12) Add
 
+-- the depth is the next digit, to base 2, from 2
 abbrev pub made_depth : ℕ → ℕ
 made_depth n = 2 + n / 420 % 2
 
+-- the operator of a digit to base 8
 abbrev pub made_operator : ℕ → Op
 made_operator s = slice_index_or made_operators (s % 8) And
 
@@ -54,6 +62,7 @@ argument_operator s = made_operator (s / 512 + 5)
 
 -- ---- the grammar: a nonterminal for each field of the result, and one more for all arguments
 
+-- a name for each field of the result, and one for the arguments
 abbrev pub made_names : ℕ → List Word
 made_names fields = take fields (codes "F0" ∷ codes "F1" ∷ []) ++ codes "A" ∷ []
 
@@ -74,6 +83,7 @@ argument_rule argument fields op =
 abbrev pub rules_of : List ℕ → ℕ → List Op → Op → Rules
 rules_of top fields ops op = map (field_rule fields ops) top ++ argument_rule fields (2 * fields) op ∷ []
 
+-- the rules of a made problem, where a number chooses the operators
 abbrev pub made_rules : ℕ → ℕ → Kind → Rules
 made_rules s w kind =
     rules_of ((abstraction_of kind).top w) (fields_of kind) (field_operators s) (argument_operator s)

@@ -14,6 +14,7 @@ use Rattle.am_problem.specs.declared.kind.Kind.TheVariants.{UInterval, SInterval
 use Rattle.am_problem.specs.declared.kind.Kind.TheVariants.{Parity, Congruence, WInterval}
 use Rattle.am_problem.specs.declared.kind.Kind.TheVariants.{UIntervalKnown, UIntervalCongruence, WIntervalCongruence}
 
+-- the name by which a problem's text calls a domain
 abbrev pub kind_name : Kind → List ℕ
 kind_name UInterval = codes "u-interval"
 kind_name SInterval = codes "s-interval"
@@ -25,6 +26,7 @@ kind_name UIntervalKnown = codes "u-interval+known-bits"
 kind_name UIntervalCongruence = codes "u-interval+congruence"
 kind_name WIntervalCongruence = codes "w-interval+congruence"
 
+-- all domains, in the order in which they are listed
 abbrev pub all_kinds : List Kind
 all_kinds =
     UInterval ∷ SInterval ∷ KnownBits ∷ Parity ∷ Congruence ∷ WInterval
@@ -42,6 +44,7 @@ abstraction_of UIntervalKnown = product unsigned_intervals all_known_bits
 abstraction_of UIntervalCongruence = product unsigned_intervals all_congruences
 abstraction_of WIntervalCongruence = product all_wrapped_intervals all_congruences
 
+-- what the abstract values of a kind mean
 abbrev pub meaning_of : Kind → Meaning
 meaning_of kind = (abstraction_of kind).meaning
 
@@ -49,8 +52,10 @@ meaning_of kind = (abstraction_of kind).meaning
 abbrev pub fields_of : Kind → ℕ
 fields_of kind = (meaning_of kind).fields
 
+-- the term that tests whether fields are an abstract value of a kind
 abbrev pub valid_term_of : Kind → ℕ → Term
 valid_term_of kind = (abstraction_of kind).valid_term
 
+-- the term that tests whether an abstract value of a kind has a word
 abbrev pub member_term_of : Kind → ℕ → Term
 member_term_of kind = (abstraction_of kind).member_term

@@ -7,9 +7,12 @@ pub mod Examples
 pub mod ExampleLaws
 pub mod Lines
 pub mod Grammar
+pub mod LineLimits
 pub mod Texts
 pub mod Printing
+pub mod Refusals
 pub mod StoredLines
 pub mod StoredDraft
 pub mod Generator
+pub mod inside
 pub mod lemmas

@@ -1,12 +1,12 @@
 -- Which problems are within the limits.
-use Rattle.std.specs.Prelude.{◌≡◌, ◌≢◌, ℕ, ◌*◌, ◌≤◌, List, length, All, IfSome, IsTrue}
+use Rattle.std.specs.Prelude.{◌≡◌, ◌≢◌, ℕ, ◌*◌, ◌<◌, ◌≤◌, List, length, All, IfSome, IsTrue}
 use Rattle.std.specs.List.{AllPairs}
 use Rattle.am_bv.specs.Terms.{fits, nodes}
 use Rattle.am_bv.specs.Words.{IsWidth}
 use Rattle.am_bv.specs.declared.term.Term.{Term}
 use Rattle.am_syntax.specs.Numerals.{is_name}
 use Rattle.am_syntax.specs.Readers.{Word}
-use Rattle.am_tree.specs.Grammars.{IsGrammar}
+use Rattle.am_tree.specs.Grammars.{IsGrammar, is_production}
 use Rattle.am_tree.specs.Slots.{layout_of}
 use Rattle.am_tree.specs.Trees.{Rules}
 use Rattle.am_tree.specs.declared.grammar.Production.{Production}
@@ -28,6 +28,15 @@ pub record IsOperation (w inputs : ℕ) (t : Term) : Type 0 where
 abbrev pub IsOver : ℕ → ℕ → Production → Type 0
 IsOver w fields (Leaf t) = IsTrue (fits w fields t)
 IsOver w fields (Node op names) = Unit {0}
+
+-- the number of a nonterminal of a problem
+abbrev pub IsNonterminal : Problem → ℕ → Type 0
+IsNonterminal p n = n < length p.names
+
+-- a production that may stand in the grammar of a problem: of its nonterminals, or over the fields of its inputs
+pub record IsProductionOf (p : Problem) (q : Production) : Type 0 where
+  pub production : IsTrue (is_production (length p.rules) q)
+  pub over : IsOver p.width (p.inputs * fields_of p.kind) q
 
 -- no name stands twice
 abbrev pub AreApart : List Word → Type 0

@@ -11,21 +11,25 @@ pub data Production : Type 0 where
   leaf : Term → Production
   node : Op → List Word → Production
 
+-- a nonterminal and its productions
 pub record Rule : Type 0 where
   pub name : Word
   pub productions : List Production
 
+-- the operation, and under which assumption it is used
 pub record Header : Type 0 where
   pub width : ℕ
   pub inputs : ℕ
   pub operation : Term
   pub assume : Option Term
 
+-- what may be spent
 pub record Budgets : Type 0 where
   pub depth : ℕ
   pub turns : ℕ
   pub conflicts : ℕ
 
+-- the lines of a problem
 pub record Lines : Type 0 where
   pub header : Header
   pub kind : Kind

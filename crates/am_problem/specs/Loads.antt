@@ -11,6 +11,7 @@ use Rattle.am_problem.specs.Problem.{Problem}
 abbrev pub test_weight : ℕ → Term → ℕ
 test_weight w t = weight w t + w
 
+-- an assumption and its test, where there is one
 abbrev pub assumption_weight : ℕ → Option Term → ℕ
 assumption_weight w None = 0
 assumption_weight w (Some t) = test_weight w t

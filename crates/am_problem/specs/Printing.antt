@@ -50,6 +50,10 @@ production_words (node op names) = codes "(" ∷ op_name op ∷ (names ++ codes 
 abbrev pub rule_row : Rule → Words
 rule_row r = codes "rule" ∷ r.name ∷ flat_map production_words r.productions
 
+-- all lines but the last, in order
+abbrev pub begun_rows : Lines → List Words
+begun_rows l = header_rows l.header ++ (domain_rows l ++ (budget_rows l.budgets ++ map rule_row l.rules))
+
 -- all lines, in order
 abbrev pub problem_rows : Lines → List Words
 problem_rows l =
@@ -58,6 +62,10 @@ problem_rows l =
     (budget_rows l.budgets ++
     (map rule_row l.rules ++
     (codes "end" ∷ []) ∷ [])))
+
+-- the words of rows, one row after another
+abbrev pub joined : List Words → Words
+joined rows = flat_map (λ ws. ws) rows
 
 -- the text of a problem, with the line of an assumption exactly where there is one
 unfoldable pub problem_text : Problem → List ℕ

@@ -6,6 +6,7 @@ use Rattle.am_problem.specs.Limits.{IsProblem}
 use Rattle.am_problem.specs.Loads.{load_of}
 use Rattle.am_problem.specs.Problem.{Problem}
 
+-- the parts of a problem as plain data
 abbrev pub seen_parts : Parts → Problem
 seen_parts p = record {
   width = p.width;
@@ -21,6 +22,7 @@ seen_parts p = record {
   conflicts = p.conflicts;
 }
 
+-- a problem as plain data
 abbrev pub seen : Inside → Problem
 seen p = seen_parts p.parts
 

@@ -25,10 +25,12 @@ use Rattle.am_problem.specs.Problem.{Problem}
 abbrev pub number_in : List Word → Word → ℕ
 number_in names name = position_or_len (bytes_eq name) names
 
+-- a production with numbers for names
 abbrev pub numbered_production : List Word → Production → Numbered
 numbered_production names (leaf t) = Leaf t
 numbered_production names (node op args) = Node op (map (number_in names) args)
 
+-- the productions of all rules with numbers for names
 abbrev pub numbered_rules : List Word → List Rule → Rules
 numbered_rules names rules = map (λ (r : Rule). map (numbered_production names) r.productions) rules
 
@@ -50,19 +52,24 @@ numbered l = record {
 
 -- ---- nonterminals by their names
 
+-- the name of a number
 abbrev pub name_at : List Word → ℕ → Word
 name_at names n = slice_index_or names n []
 
+-- a production with names for numbers
 abbrev pub named_production : List Word → Numbered → Production
 named_production names (Leaf t) = leaf t
 named_production names (Node op args) = node op (map (name_at names) args)
 
--- a rule for each name, of the nonterminals of all names
+-- a rule of this name and these productions, of the nonterminals of all names
+abbrev pub named_rule : List Word → Word → List Numbered → Rule
+named_rule names name ps = record { name = name; productions = map (named_production names) ps }
+
+-- a rule for each name
 abbrev pub named_rules : List Word → List Word → Rules → List Rule
 named_rules names [] rules = []
 named_rules names (v ∷ vs) [] = []
-named_rules names (v ∷ vs) (ps ∷ rules) =
-    (record { name = v; productions = map (named_production names) ps }) ∷ named_rules names vs rules
+named_rules names (v ∷ vs) (ps ∷ rules) = named_rule names v ps ∷ named_rules names vs rules
 
 -- the lines of a problem
 abbrev pub named : Problem → Lines
@@ -76,6 +83,7 @@ named p = record {
 
 -- ---- names that no rule has
 
+-- a name that no rule has
 abbrev pub is_undefined : List Word → Word → Bool
 is_undefined names v = is_name v && not (has_name names v)
 
@@ -91,6 +99,7 @@ pub record Draft : Type 0 where
   pub lines : Lines
   pub undefined : Option ℕ
 
+-- the draft of lines, and of the tokens from their beginning on
 abbrev pub draft_with : List Placed → Lines → Draft
 draft_with tokens l = record { lines = l; undefined = undefined_in (names_of l.rules) tokens }
 
@@ -104,6 +113,7 @@ sized p =
     if nat_lt 256 (slots_of p) then Err (Slots (slots_of p)) else
     if nat_lt 16777216 (load_of p) then Err (Load (load_of p)) else Ok p
 
+-- the problem of lines, or the refusal of the name without a rule in this place
 abbrev pub settled_by : Lines → Option ℕ → Result Problem Refusal
 settled_by l (Some place) = Err (Undefined place)
 settled_by l None = sized (numbered l)
@@ -120,6 +130,7 @@ pub record Reads (text : List ℕ) (p : Problem) : Type 0 where
   pub spelled : words_of text ≡ problem.spell (named p)
   pub limits : IsProblem p
 
+-- the draft of the lines that a text has
 abbrev pub drafted : List ℕ → Result Lines Refusal → Result Draft Refusal
 drafted text (Ok l) = Ok (draft_with (tokens_at 0 text) l)
 drafted text (Err r) = Err r
@@ -128,6 +139,7 @@ drafted text (Err r) = Err r
 abbrev pub draft_of : List ℕ → Result Draft Refusal
 draft_of text = drafted text (text_value problem text)
 
+-- the problem of a draft that was read
 abbrev pub all_settled : Result Draft Refusal → Result Problem Refusal
 all_settled (Ok d) = settled d
 all_settled (Err r) = Err r
@@ -140,6 +152,14 @@ problem_of text = all_settled (draft_of text)
 abbrev pub IfRefused : ReadError → (Refusal → Type 0) → Type 0
 IfRefused (Refused r) P = P r
 IfRefused NoMemory P = Unit {0}
+
+-- the text is some problem's
+abbrev pub IsProblemText : List ℕ → Type 0
+IsProblemText text = (p : Problem) × Reads text p
+
+-- a text is one problem's at most
+abbrev pub IsOneProblem : List ℕ → Type 0
+IsOneProblem text = (p q : Problem) → Reads text p → Reads text q → p ≡ q
 
 -- a text is some problem's and has no refusal, or it is none's and has one
 abbrev pub IsSettledProblem : List ℕ → Type 0

@@ -1,14 +1,9 @@
 //! Problems as they are read, before their names are looked up.
 
-ghost use Rattle.std.specs.Prelude.{◌≡◌, None};
-ghost use Rattle.am_problem.specs.Limits.{IsFormed};
-ghost use Rattle.am_problem.specs.StoredLines.{seen_lines};
-ghost use Rattle.am_problem.specs.Texts.{numbered};
-ghost use Rattle.am_problem.specs.lemmas.Facts.{formed-prop};
-
 use crate::kind::Kind;
 use am_bv::{Op, Row, Term, Width};
 use am_syntax::Letter;
+use std::marker::Model;
 
 /// Where a term stands.
 #[derive(Clone, Copy)]
@@ -60,11 +55,27 @@ pub struct Lines<'a> {
     pub(crate) rules: Row<Rule<'a>>,
 }
 
-/// A problem as it was read, before its names are numbered and its size is tested.
+/// A problem as it was read, before its names are numbered and its size is tested. Contracts see its lines and
+/// the place of the first name that no rule has.
 #[derive(Drop)]
 pub struct Draft<'a> {
     pub(crate) lines: Lines<'a>,
     /// The place of the first name that no rule has.
     pub(crate) undefined: Option<usize>,
-    pub(crate) ghost formed: { undefined ≡ None → IsFormed (numbered (seen_lines lines)) } by { Prim.hlevel (formed-prop) },
+}
+
+impl<'a> Model for Draft<'a> {
+    ghost use Rattle.std.specs.Coded.{codes};
+    ghost use Rattle.am_bv.specs.contracts.term.Term as term;
+    ghost use Rattle.am_problem.specs.Texts.{Draft as Data};
+
+    ghost Value = { Data };
+
+    ghost coded = { Prim.hlevel (codes, term.the_row.coded) };
+
+    ghost use Rattle.am_problem.specs.StoredDraft.{IsInside, seen};
+
+    ghost view = { seen };
+
+    ghost invariant = { IsInside };
 }

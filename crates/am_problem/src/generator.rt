@@ -19,6 +19,8 @@ use std::alloc::{AllocError, Global};
 /// The last number that has a problem.
 pub const LAST_PROBLEM: u32 = 999_999;
 
+const _: () = prove!(LAST_PROBLEM == 999_999);
+
 /// The domains of made problems.
 const KINDS: [Kind; 5] = [
     Kind::UInterval,
@@ -71,7 +73,7 @@ const CONFLICTS: u32 = 200_000;
 /// of an input, 0 or an operator at two arguments. The constants are the words of the greatest abstract
 /// value, so each such problem has a sound transformer.
 pub fn make_problem(alloc: Global, n: u32) -> Result<Problem, AllocError>
-    requires { n ≤ LAST_PROBLEM }
+    requires { n ≤ 999999 }
     ensures made { IfOk result (λ p. p ≡ made n) }
     ensures solvable { IfOk result HasSound }
 {

@@ -17,8 +17,11 @@
 //! limits of `specs/Limits.antt`. [`read_problem`] answers exactly the problem whose canonical words the
 //! text has, within the limits, or the first refusal: of a byte; then from the left of a token, by the
 //! grammar in `specs/Grammar.antt`; then of a name without a rule; then of the slots; then of the load. For
-//! each text exactly one of the two exists ([`texts_are_settled`]). [`Problem::load`] is the bound on the
-//! gates of the problem's formulas in `specs/Loads.antt`. [`print_problem`] appends exactly the lines of
+//! each text exactly one of the two exists ([`texts_are_settled`]), and a text is one problem's at most
+//! ([`texts_have_one_problem`]). [`refusals_come_in_order`] tells the order by what stands in the text: a
+//! rule's name is counted before it is compared with earlier ones, and names without rules, the slots and the
+//! load are refused only in a text whose tokens are all right. [`Problem::load`] is the bound on the gates of
+//! the problem's formulas in `specs/Loads.antt`. [`print_problem`] appends exactly the lines of
 //! `specs/Printing.antt`, or where memory runs out a part of them from the beginning, and what was printed
 //! reads back as the problem ([`canonical_texts_are_read`]). [`make_problem`] answers exactly the problem
 //! that `specs/Generator.antt` has for the number; it is within all limits, and has a sound transformer.
@@ -56,4 +59,7 @@ pub use parts::{Name, Names};
 pub use printing::{canonical_texts_are_read, print_problem};
 pub use problem::Problem;
 pub use rows::{Inputs, ShortRow, WordRow};
-pub use text::{problem_at, read_problem, take_problem, texts_are_settled};
+pub use text::{
+    problem_at, read_problem, refusals_come_in_order, take_problem, texts_are_settled,
+    texts_have_one_problem,
+};

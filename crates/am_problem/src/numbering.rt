@@ -1,11 +1,12 @@
 //! Nonterminals by their numbers.
 
-ghost use Rattle.std.specs.Prelude.{◌≡◌, ◌≤◌, IfOk, length, map};
+ghost use Rattle.std.specs.Prelude.{◌≡◌, ◌≤◌, ◌++◌, ◌∷◌, [], All, IfOk, false, length, map};
+ghost use Rattle.am_problem.specs.Grammar.{has_name, names_of};
 ghost use Rattle.am_problem.specs.Limits.{AreApart, IsFormed};
 ghost use Rattle.am_problem.specs.Stored.{seen_parts};
 ghost use Rattle.am_problem.specs.StoredLines.{seen_lines, seen_names, seen_production, seen_productions, seen_rules};
 ghost use Rattle.am_problem.specs.Texts.{number_in, numbered, numbered_production, numbered_rules};
-ghost use Rattle.am_problem.specs.Grammar.{names_of};
+ghost use Rattle.am_problem.specs.inside.Names.{IsNameOf, IsProductionOver, IsRuleOver, names_in};
 
 use crate::draft::{Budgets, Header, Lines, Production, Rule};
 use crate::parts::{Name, Names, Parts};
@@ -51,24 +52,34 @@ pub(crate) fn number_lines(alloc: Global, lines: Lines<'_>) -> Result<Parts, All
     })
 }
 
-/// The names of rules, to be found by themselves and by their places.
+/// The names of rules in a set: the number of a nonterminal is the place of its name there.
 fn index_names<'a>(alloc: Global, rules: &[Rule<'a>]) -> Result<IndexSet<&'a [u8]>, AllocError>
     requires { AreApart (names_of (seen_rules rules.now)) }
-    ensures { IfOk result (λ names. seen_names names.keys ≡ names_of (seen_rules rules.now)) }
+    ensures { IfOk result (λ names. names_in names ≡ names_of (seen_rules rules.now)) }
 {
     let mut names = IndexSet::new(alloc);
     for rule in rules {
-        names.insert(rule.name)?;
+        add_name(&mut names, rule.name)?;
     }
     Ok(names)
 }
 
+/// Puts a new name after the others.
+fn add_name<'a>(names: &mut IndexSet<&'a [u8]>, name: &'a [u8]) -> Result<(), AllocError>
+    requires { has_name (names_in names.old) name.now ≡ false }
+    ensures { IfOk result (λ _. names_in names.new ≡ names_in names.old ++ name.now ∷ []) }
+{
+    names.insert(name)?;
+    Ok(())
+}
+
 /// The number of a nonterminal: the place of its name.
 fn number_name<'a>(names: &IndexSet<&'a [u8]>, name: &'a [u8]) -> u32
-    requires { length names.now.keys ≤ 16 }
-    ensures { result ≡ number_in (seen_names names.now.keys) name.now }
+    requires few { length (names_in names.now) ≤ 16 }
+    requires known { IsNameOf (names_in names.now) name.now }
+    ensures { result ≡ number_in (names_in names.now) name.now }
 {
-    names.get_index_of(&name).unwrap_or(names.len()) as u32
+    names.get_index_of(&name).unwrap() as u32
 }
 
 /// The numbers of nonterminals.
@@ -77,8 +88,9 @@ fn number_names<'a>(
     names: &IndexSet<&'a [u8]>,
     row: &[&'a [u8]],
 ) -> Result<Symbols, AllocError>
-    requires { length names.now.keys ≤ 16 }
-    ensures { IfOk result (λ r. r ≡ map (number_in (seen_names names.now.keys)) (seen_names row.now)) }
+    requires few { length (names_in names.now) ≤ 16 }
+    requires known { All (IsNameOf (names_in names.now)) (seen_names row.now) }
+    ensures { IfOk result (λ r. r ≡ map (number_in (names_in names.now)) (seen_names row.now)) }
 {
     let mut numbers = Symbols::new(alloc);
     for name in row {
@@ -93,9 +105,9 @@ fn number_production<'a>(
     names: &IndexSet<&'a [u8]>,
     production: &Production<'a>,
 ) -> Result<Numbered, AllocError>
-    requires { length names.now.keys ≤ 16 }
-    ensures { IfOk result (λ r.
-        r ≡ numbered_production (seen_names names.now.keys) (seen_production production.now)) }
+    requires few { length (names_in names.now) ≤ 16 }
+    requires known { IsProductionOver (names_in names.now) (seen_production production.now) }
+    ensures { IfOk result (λ r. r ≡ numbered_production (names_in names.now) (seen_production production.now)) }
 {
     match production {
         Production::Leaf(term) => Ok(Numbered::Leaf(term.copy(alloc)?)),
@@ -112,8 +124,9 @@ fn number_productions<'a>(
     names: &IndexSet<&'a [u8]>,
     productions: &[Production<'a>],
 ) -> Result<Productions, AllocError>
-    requires { length names.now.keys ≤ 16 }
-    ensures { let known = seen_names names.now.keys in
+    requires few { length (names_in names.now) ≤ 16 }
+    requires known { All (IsProductionOver (names_in names.now)) (seen_productions productions.now) }
+    ensures { let known = names_in names.now in
         IfOk result (λ r. r ≡ map (numbered_production known) (seen_productions productions.now)) }
 {
     let mut numbered = Productions::new(alloc);
@@ -129,8 +142,9 @@ fn number_rules<'a>(
     names: &IndexSet<&'a [u8]>,
     rules: &[Rule<'a>],
 ) -> Result<Rules, AllocError>
-    requires { length names.now.keys ≤ 16 }
-    ensures { IfOk result (λ r. r ≡ numbered_rules (seen_names names.now.keys) (seen_rules rules.now)) }
+    requires few { length (names_in names.now) ≤ 16 }
+    requires known { All (IsRuleOver (names_in names.now)) (seen_rules rules.now) }
+    ensures { IfOk result (λ r. r ≡ numbered_rules (names_in names.now) (seen_rules rules.now)) }
 {
     let mut numbered = Rules::new(alloc);
     for rule in rules {

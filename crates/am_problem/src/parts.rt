@@ -7,7 +7,6 @@ ghost use Rattle.am_problem.specs.Loads.{assumption_weight, load_of, test_weight
 ghost use Rattle.am_problem.specs.Stored.{seen_parts};
 
 use crate::kind::Kind;
-use crate::limits::MOST_SLOTS;
 use am_bv::{Row, Term, Width};
 use am_domain::Domain;
 use am_tree::Grammar;
@@ -37,7 +36,7 @@ impl Parts {
     /// The load.
     pub(crate) fn load(&self, alloc: Global) -> Result<u64, AllocError>
         requires formed { IsFormed (seen_parts self.now) }
-        requires slots { slots_of (seen_parts self.now) ≤ MOST_SLOTS }
+        requires slots { slots_of (seen_parts self.now) ≤ 256 }
         ensures { IfOk result (λ l. l ≡ load_of (seen_parts self.now)) }
     {
         let w = self.width;

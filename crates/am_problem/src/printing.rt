@@ -1,14 +1,12 @@
 //! Printing of problems.
 
-ghost use Rattle.std.specs.Prelude.{◌≡◌, ◌<◌, ◌*◌, ◌∷◌, [], All, IsTrue, codes, flat_map, length, map};
+ghost use Rattle.std.specs.Prelude.{◌≡◌, ◌∷◌, [], All, IsTrue, codes, flat_map, map};
 ghost use Rattle.am_syntax.specs.Canonical.{Appends, line, lines, spaced};
 ghost use Rattle.am_syntax.specs.Numerals.{is_name};
-ghost use Rattle.am_tree.specs.Grammars.{is_production};
-ghost use Rattle.am_problem.specs.Kinds.{fields_of};
-ghost use Rattle.am_problem.specs.Limits.{IsOver, IsProblem};
+ghost use Rattle.am_problem.specs.Limits.{IsNonterminal, IsProblem, IsProductionOf};
 ghost use Rattle.am_problem.specs.Printing.{assume_rows, budget_rows, domain_rows, header_rows, operation_row};
 ghost use Rattle.am_problem.specs.Printing.{CanonicalTextsAreRead, problem_text, production_words, rule_row};
-ghost use Rattle.am_problem.specs.Texts.{name_at, named, named_production};
+ghost use Rattle.am_problem.specs.Texts.{name_at, named, named_production, named_rule};
 
 use crate::problem::Problem;
 use am_bv::Op;
@@ -85,7 +83,7 @@ fn print_domain(out: &mut Writer, p: &Problem) -> Result<(), AllocError>
 /// Appends the line of the starts.
 fn print_starts(out: &mut Writer, p: &Problem, starts: &[u32]) -> Result<(), AllocError>
     requires limits { IsProblem p.now }
-    requires known { All (λ n. n < length p.now.names) starts.now }
+    requires known { All (IsNonterminal p.now) starts.now }
     ensures { Appends result out.old out.new (line (codes "start" ∷ map (name_at p.now.names) starts.now)) }
 {
     out.word(b"start")?;
@@ -133,10 +131,9 @@ fn print_rule(
 ) -> Result<(), AllocError>
     requires limits { IsProblem p.now }
     requires name { IsTrue (is_name name.now) }
-    requires known { All (λ q. IsTrue (is_production (length p.now.rules) q)) productions.now }
-    requires fit { All (IsOver p.now.width (p.now.inputs * fields_of p.now.kind)) productions.now }
-    ensures { let ps = map (named_production p.now.names) productions.now in
-        Appends result out.old out.new (line (rule_row (record { name = name.now; productions = ps }))) }
+    requires known { All (IsProductionOf p.now) productions.now }
+    ensures { let rule = named_rule p.now.names name.now productions.now in
+        Appends result out.old out.new (line (rule_row rule)) }
 {
     out.word(b"rule")?;
     print_word(out, name)?;
@@ -146,7 +143,7 @@ fn print_rule(
     out.newline()
 }
 
-/// Appends a production behind a space.
+/// Appends a production after a space.
 #[tactic(auto, using(crate::proofs::Printed::leaf_fits))]
 fn print_production(
     out: &mut Writer,
@@ -154,8 +151,7 @@ fn print_production(
     production: &Production,
 ) -> Result<(), AllocError>
     requires limits { IsProblem p.now }
-    requires known { IsTrue (is_production (length p.now.rules) production.now) }
-    requires fit { IsOver p.now.width (p.now.inputs * fields_of p.now.kind) production.now }
+    requires known { IsProductionOf p.now production.now }
     ensures { let shown = named_production p.now.names production.now in
         Appends result out.old out.new (32 ∷ spaced (production_words shown)) }
 {
@@ -169,7 +165,7 @@ fn print_production(
 /// Appends an operator at nonterminals.
 fn print_call(out: &mut Writer, p: &Problem, op: Op, symbols: &[u32]) -> Result<(), AllocError>
     requires limits { IsProblem p.now }
-    requires known { All (λ n. n < length p.now.names) symbols.now }
+    requires known { All (IsNonterminal p.now) symbols.now }
     ensures { let shown = named_production p.now.names (Production.Node op symbols.now) in
         Appends result out.old out.new (spaced (production_words shown)) }
 {
@@ -179,10 +175,10 @@ fn print_call(out: &mut Writer, p: &Problem, op: Op, symbols: &[u32]) -> Result<
     out.word(b")")
 }
 
-/// Appends the names of nonterminals, each behind a space.
+/// Appends the names of nonterminals, each after a space.
 fn print_names(out: &mut Writer, p: &Problem, symbols: &[u32]) -> Result<(), AllocError>
     requires limits { IsProblem p.now }
-    requires known { All (λ n. n < length p.now.names) symbols.now }
+    requires known { All (IsNonterminal p.now) symbols.now }
     ensures { Appends result out.old out.new (flat_map (λ n. 32 ∷ name_at p.now.names n) symbols.now) }
 {
     let names = p.names();

@@ -4,7 +4,6 @@ ghost use Rattle.std.specs.Prelude.{◌≡◌, ◌-◌, bytes_eq, codes, length,
 ghost use Rattle.std.specs.List.{list_any};
 ghost use Rattle.am_bv.specs.Operators.{arity};
 ghost use Rattle.am_text.specs.Tokens.{words};
-ghost use Rattle.am_tree.specs.declared.grammar.TheConstants.{MOST_PRODUCTIONS as most_productions};
 ghost use Rattle.am_syntax.specs.Pieces.{times};
 ghost use Rattle.am_syntax.specs.Readers.{Gives, Makes};
 ghost use Rattle.am_syntax.specs.Spelling.{IsScope};
@@ -213,7 +212,7 @@ pub(crate) fn has_name(rules: &[Rule<'_>], name: &[u8]) -> bool
     rules.iter().any(|rule| name == rule.name)
 }
 
-/// The name of a rule behind other rules.
+/// The name of a rule after other rules.
 #[derive(Clone, Copy)]
 struct RuleName<'r, 'a> {
     seen: &'r [Rule<'a>],
@@ -248,7 +247,7 @@ impl<'t, 'r, 'a> Judge<'t> for RuleName<'r, 'a> {
     }
 }
 
-/// Takes the name of a rule behind other rules.
+/// Takes the name of a rule after other rules.
 #[tactic(auto, unfolding(crate::specs::Grammar::rule_name))]
 fn take_rule_name<'a>(text: &mut Cursor<'a>, seen: &[Rule<'_>]) -> Result<&'a [u8], Cause>
     ensures { Gives (λ v. v.now) result text.old text.new (rule_name (seen_rules seen.now)).read }
@@ -257,8 +256,8 @@ fn take_rule_name<'a>(text: &mut Cursor<'a>, seen: &[Rule<'_>]) -> Result<&'a [u
 }
 
 /// How many productions there may be still.
-fn room_behind(seen: &[Rule<'_>]) -> usize
-    ensures { result ≡ most_productions - sum_by (λ rule. length rule.productions) seen.now }
+fn room_after(seen: &[Rule<'_>]) -> usize
+    ensures { result ≡ 64 - sum_by (λ rule. length rule.productions) seen.now }
 {
     let mut room = MOST_PRODUCTIONS;
     for rule in seen {
@@ -267,7 +266,7 @@ fn room_behind(seen: &[Rule<'_>]) -> usize
     room
 }
 
-/// `rule`, a nonterminal and its productions, behind other rules.
+/// `rule`, a nonterminal and its productions, after other rules.
 #[tactic(auto, using(crate::proofs::Seen::seen), unfolding(crate::specs::Grammar::rule))]
 fn read_rule<'a>(
     alloc: Global,
@@ -280,7 +279,7 @@ fn read_rule<'a>(
 {
     take_key(text, b"rule")?;
     let name = take_rule_name(text, seen)?;
-    let productions = read_productions(alloc, text, scope, room_behind(seen))?;
+    let productions = read_productions(alloc, text, scope, room_after(seen))?;
     Ok(Rule { name, productions })
 }
 

@@ -4,7 +4,6 @@ ghost use Rattle.std.specs.Prelude.{◌≡◌, ◌≤◌, IfOk, length, map};
 ghost use Rattle.am_syntax.specs.Texts.{Answers};
 ghost use Rattle.am_problem.specs.Limits.{IsFormed};
 ghost use Rattle.am_problem.specs.Stored.{seen_parts};
-ghost use Rattle.am_problem.specs.StoredDraft.{seen_draft};
 ghost use Rattle.am_problem.specs.StoredLines.{seen_lines};
 ghost use Rattle.am_problem.specs.Texts.{numbered, settled, sized};
 
@@ -21,28 +20,28 @@ use std::alloc::Global;
 impl<'a> Draft<'a> {
     /// The number of bits of a word.
     pub fn width(&self) -> Width
-        ensures { result ≡ (seen_draft self.now).lines.header.width }
+        ensures { result ≡ self.now.lines.header.width }
     {
         self.lines.header.width
     }
 
     /// How many inputs the operation has, from 1 to 3.
     pub fn inputs(&self) -> u32
-        ensures { result ≡ (seen_draft self.now).lines.header.inputs }
+        ensures { result ≡ self.now.lines.header.inputs }
     {
         self.lines.header.inputs
     }
 
     /// The abstract domain.
     pub fn kind(&self) -> Kind
-        ensures { result ≡ (seen_draft self.now).lines.kind }
+        ensures { result ≡ self.now.lines.kind }
     {
         self.lines.kind
     }
 
     /// How many turns may be taken.
     pub fn turns(&self) -> u32
-        ensures { result ≡ (seen_draft self.now).lines.budgets.turns }
+        ensures { result ≡ self.now.lines.budgets.turns }
     {
         self.lines.budgets.turns
     }
@@ -54,7 +53,7 @@ impl<'a> Draft<'a> {
     /// `Refused` with `Undefined`, where a name has no rule; else with `Slots`, where the grammar has
     /// more slots than allowed; else with `Load`, where the load is greater than allowed.
     pub fn settle(self, alloc: Global) -> Result<Problem, ReadError>
-        ensures { Answers (λ p. p) result (settled (seen_draft self.entry)) }
+        ensures { Answers (λ p. p) result (settled self.entry) }
     {
         let Draft { lines, undefined } = self;
         if let Some(place) = undefined {

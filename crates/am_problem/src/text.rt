@@ -1,16 +1,16 @@
 //! The whole text of a problem.
 
-ghost use Rattle.std.specs.Prelude.{◌≡◌, ℕ, List, Err, IfErr, IfOk, None, Ok};
+ghost use Rattle.std.specs.Prelude.{◌≡◌, ℕ, List, Err, IfErr, IfOk, None};
 ghost use Rattle.am_text.specs.Tokens.{bad_byte, text_left};
 ghost use Rattle.am_syntax.specs.Readers.{Makes};
 ghost use Rattle.am_syntax.specs.declared.refusal.Failure.TheVariants.{NoMemory};
+ghost use Rattle.am_syntax.specs.declared.refusal.ReadError.TheVariants as read_error;
 ghost use Rattle.am_syntax.specs.Texts.{Answers, MakesAt, text_value};
 ghost use Rattle.am_problem.specs.Grammar.{names_of, problem};
-ghost use Rattle.am_problem.specs.Problem.{Problem as Data};
-ghost use Rattle.am_problem.specs.StoredDraft.{seen_draft};
+ghost use Rattle.am_problem.specs.Refusals.{AreInOrder};
 ghost use Rattle.am_problem.specs.StoredLines.{seen_lines, seen_rules};
-ghost use Rattle.am_problem.specs.Texts.{IfRefused, IsSettledProblem, Reads, draft, draft_of};
-ghost use Rattle.am_problem.specs.Texts.{problem_of, undefined_in};
+ghost use Rattle.am_problem.specs.Texts.{IfRefused, IsOneProblem, IsProblemText, IsSettledProblem, Reads};
+ghost use Rattle.am_problem.specs.Texts.{draft, draft_of, problem_of, undefined_in};
 
 use crate::draft::{Draft, Lines, Rule, Scope};
 use crate::header::{read_budgets, read_domain, read_header, read_starts};
@@ -64,7 +64,7 @@ fn first_undefined(text: &mut Cursor<'_>, rules: &[Rule<'_>]) -> Option<usize>
 
 /// A problem up to its `end`, with the first name that no rule has.
 fn read_draft<'a>(alloc: Global, text: &mut Cursor<'a>) -> Result<Draft<'a>, Failure>
-    ensures { Makes seen_draft result text.old text.new draft }
+    ensures { Makes (λ d. d) result text.old text.new draft }
 {
     let mut ahead = text.fork();
     let lines = read_lines(alloc, text)?;
@@ -79,7 +79,7 @@ fn read_draft<'a>(alloc: Global, text: &mut Cursor<'a>) -> Result<Draft<'a>, Fai
 /// `Refused`: the first token that no problem has here. The cursor stands at it. `NoMemory`: the
 /// cursor stays.
 pub fn take_problem<'a>(alloc: Global, text: &mut Cursor<'a>) -> Result<Draft<'a>, Failure>
-    ensures read { Makes seen_draft result text.old text.new draft }
+    ensures read { Makes (λ d. d) result text.old text.new draft }
     ensures stays { result ≡ Err NoMemory → text.new ≡ text.old }
 {
     let mut ahead = text.fork();
@@ -94,7 +94,7 @@ pub fn take_problem<'a>(alloc: Global, text: &mut Cursor<'a>) -> Result<Draft<'a
 /// `Refused`: the first token that no problem has here. The cursor stands at it. `NoMemory`: the
 /// cursor stays.
 pub fn problem_at<'a>(alloc: Global, c: &mut Cursor<'a>) -> Result<Draft<'a>, ReadError>
-    ensures { MakesAt seen_draft result c.old c.new draft }
+    ensures { MakesAt (λ d. d) result c.old c.new draft }
 {
     let read = take_problem(alloc, c);
     placed(read, &*c)
@@ -118,7 +118,7 @@ fn read_to_end<'a>(
 /// Reads all of a text, before its names are numbered.
 #[tactic(auto, unfolding(am_syntax::specs::Texts::text_value))]
 fn read_text<'a>(alloc: Global, text: &'a [u8]) -> Result<Draft<'a>, ReadError>
-    ensures { Answers seen_draft result (draft_of text.now) }
+    ensures { Answers (λ d. d) result (draft_of text.now) }
 {
     let mut cursor = open(text)?;
     let lines = read_to_end(alloc, text, cursor.fork())?;
@@ -141,8 +141,8 @@ fn read_all(alloc: Global, text: &[u8]) -> Result<Problem, ReadError>
 pub fn read_problem(alloc: Global, text: &[u8]) -> Result<Problem, ReadError>
     // What is read is the text's problem.
     ensures found { IfOk result (λ p. Reads text.now p) }
-    // What is some problem's text is read, unless memory runs out.
-    ensures only { (p : Data) → Reads text.now p → Answers (λ p. p) result (Ok p) }
+    // The text of a problem is read, unless memory runs out.
+    ensures only { IsProblemText text.now → IfErr result (λ e. e ≡ read_error.NoMemory) }
     // Where nothing is read, the refusal is the first.
     ensures first { IfErr result (λ e. IfRefused e (λ r. problem_of text.now ≡ Err r)) }
 {
@@ -152,4 +152,15 @@ pub fn read_problem(alloc: Global, text: &[u8]) -> Result<Problem, ReadError>
 /// Each text is a problem's or has a first refusal, and not both.
 pub fn texts_are_settled()
     ensures { (text : List ℕ) → IsSettledProblem text }
+{}
+
+/// A text is one problem's at most.
+pub fn texts_have_one_problem()
+    ensures { (text : List ℕ) → IsOneProblem text }
+{}
+
+/// A rule's name is counted before it is compared with those of earlier rules. Names without rules, the slots and
+/// the load come after all tokens, in this order.
+pub fn refusals_come_in_order()
+    ensures { (text : List ℕ) → AreInOrder text }
 {}

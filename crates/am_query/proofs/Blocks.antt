@@ -44,6 +44,7 @@ module _ (p : Problem) (formed : IsFormed p) where
   leaf-over (Leaf t) h = h
   leaf-over (Node op names) h = refl
 
+  -- the leaves of a problem's productions read fields of its inputs alone
   pub over_fields : (n : ℕ) → n ≡ all_fields p → AreOver (encoding_of p) n
   over_fields n e = rw e (λ i d l j q m. leaf-over _ (formed.leaves i d l j q m))
 
@@ -53,10 +54,15 @@ module _ (p : Problem) (formed : IsFormed p) where
     pub values : map (reads v) tuple ≡ results (question_of p) terms (inputs_of p row)
 
   -- values of terms are a result
-  valued : (v : ℕ → Bool) (terms : List Term) → length terms ≡ k → (row : List ℕ) → IsRow p row → (tuple : List (List ℕ)) →
-      All (λ word. length word ≡ w) tuple → map (reads v) tuple ≡ map (λ t. val w t row) terms → ReadsResults v terms row tuple
+  valued : (v : ℕ → Bool) (terms : List Term) → length terms ≡ k → (row : List ℕ) → IsRow p row →
+      (tuple : List (List ℕ)) →
+      All (λ word. length word ≡ w) tuple → map (reads v) tuple ≡ map (λ t. val w t row) terms →
+      ReadsResults v terms row tuple
   valued v terms counted row is tuple bits e = record {
-    long = record { many = sym (length-map tuple (reads v)) ∙ ap length e ∙ length-map terms (λ t. val w t row) ∙ counted; bits = bits };
+    long = record {
+      many = sym (length-map tuple (reads v)) ∙ ap length e ∙ length-map terms (λ t. val w t row) ∙ counted;
+      bits = bits;
+    };
     values = e ∙ sym (ap (λ env. map (λ t. val w t env) terms) (rows_are_joined p row is));
   }
 
@@ -70,23 +76,30 @@ module _ (p : Problem) (formed : IsFormed p) where
     terms-fit e = rw e is.fit
 
     -- the words of its terms read as its result
-    pub Means-outputs : (v : ℕ → Bool) → AreLong w (all_fields p) fields → Means v (outputs p terms fields) (ReadsResults v terms (map (reads v) fields))
+    pub Means-outputs : (v : ℕ → Bool) → AreLong w (all_fields p) fields →
+        Means v (outputs p terms fields) (ReadsResults v terms (map (reads v) fields))
     Means-outputs v h =
         Means-weaker (Means-terms w (some_bit p formed) fields v h.bits terms (terms-fit h.many))
         (λ tuple r. valued v terms is.counted (map (reads v) fields) (reads-row v fields h) tuple r.bits r.values)
 
+    -- the words of a given transformer's terms are gates of their weight
     pub Makes-outputs : (q : Place) → 0 < q.next → AreWordsIn w (all_fields p) q.next fields →
         MakesGates (outputs p terms fields) (sum_by (weight w) terms) (AreWordsIn w k) q
     Makes-outputs q pos h =
         Makes-weaker (Makes-terms w (some_bit p formed) fields terms (terms-fit h.many) q pos h.each)
         (λ n tuple l r. record { many = r.many ∙ is.counted; each = r.each })
 
-    pub Reaches-outputs : (v : ℕ → Bool) (q : Place) → 0 < q.next → IsTrue (v 0) → AreWordsIn w (all_fields p) q.next fields →
-        Reaches v (outputs p terms fields) q (λ u r tuple. AreWordsIn w k r.next tuple × ReadsResults u terms (map (reads v) fields) tuple)
+    -- from truth values of the fields, those of the terms' words can be met
+    pub Reaches-outputs : (v : ℕ → Bool) (q : Place) → 0 < q.next → IsTrue (v 0) →
+        AreWordsIn w (all_fields p) q.next fields →
+        Reaches v (outputs p terms fields) q
+        (λ u r tuple. AreWordsIn w k r.next tuple × ReadsResults u terms (map (reads v) fields) tuple)
     Reaches-outputs v q pos t h =
         Reaches-weaker
-        (Reaches-gates pos t (Makes-outputs q pos h) (λ u same. Means-outputs u (AreLong-words w (all_fields p) q.next fields h)))
-        (λ u r tuple l same g. (g.0, subst (λ row. ReadsResults u terms row tuple) (map-same u v w q.next same fields h.each) g.1))
+        (Reaches-gates pos t (Makes-outputs q pos h)
+        (λ u same. Means-outputs u (AreLong-words w (all_fields p) q.next fields h)))
+        (λ u r tuple l same g.
+        (g.0, subst (λ row. ReadsResults u terms row tuple) (map-same u v w q.next same fields h.each) g.1))
 
   -- ---- the transformer of a tuple of trees
 
@@ -94,23 +107,31 @@ module _ (p : Problem) (formed : IsFormed p) where
   e = encoding_of p
 
   -- the terms of trees that derive are derivable
-  pub tuple_derivable : (ts : List Tree) → IsDerived (encoding_of p) ts → AreDerivable p.rules p.starts p.depth (terms_of (encoding_of p) ts)
+  pub tuple_derivable : (ts : List Tree) → IsDerived (encoding_of p) ts →
+      AreDerivable p.rules p.starts p.depth (terms_of (encoding_of p) ts)
   tuple_derivable ts h = record { trees = ts; derive = h; give = refl }
 
   pub tuple_fits : (ts : List Tree) → IsDerived (encoding_of p) ts → IsTransformer p (terms_of (encoding_of p) ts)
   tuple_fits ts h = derivable_terms_fit p formed (terms_of e ts) (tuple_derivable ts h)
 
-  read_as : (v : ℕ → Bool) (ts : List Tree) → IsDerived e ts → (fields : List (List ℕ)) → AreLong w (all_fields p) fields →
+  read_as : (v : ℕ → Bool) (ts : List Tree) → IsDerived e ts → (fields : List (List ℕ)) →
+      AreLong w (all_fields p) fields →
       (tuple : List (List ℕ)) → ReadAs e fields v ts tuple → ReadsResults v (terms_of e ts) (map (reads v) fields) tuple
-  read_as v ts d fields h tuple r = valued v (terms_of e ts) (tuple_fits ts d).counted (map (reads v) fields) (reads-row v fields h) tuple r.bits r.values
+  read_as v ts d fields h tuple r =
+      valued v (terms_of e ts) (tuple_fits ts d).counted (map (reads v) fields) (reads-row v fields h) tuple r.bits
+      r.values
 
   -- the words of a block read as its result
-  pub Means-block : (v : ℕ → Bool) (ts : List Tree) → Serves (encoding_of p) v ts → (fields : List (List ℕ)) → AreLong w (all_fields p) fields →
+  pub Means-block : (v : ℕ → Bool) (ts : List Tree) → Serves (encoding_of p) v ts → (fields : List (List ℕ)) →
+      AreLong w (all_fields p) fields →
       Means v (block (encoding_of p) fields) (ReadsResults v (terms_of (encoding_of p) ts) (map (reads v) fields))
   Means-block v ts serves fields h =
-      Means-weaker (serves.blocks fields (over_fields (length fields) h.many) h.bits) (read_as v ts serves.derived fields h)
+      Means-weaker (serves.blocks fields (over_fields (length fields) h.many) h.bits)
+      (read_as v ts serves.derived fields h)
 
-  pub Makes-block : (q : Place) → 1 + selectors_of (encoding_of p) ≤ q.next → (fields : List (List ℕ)) → AreWordsIn w (all_fields p) q.next fields →
+  -- the words of a block are gates of its weight
+  pub Makes-block : (q : Place) → 1 + selectors_of (encoding_of p) ≤ q.next → (fields : List (List ℕ)) →
+      AreWordsIn w (all_fields p) q.next fields →
       MakesGates (block (encoding_of p) fields) (weight_of_block (encoding_of p)) (AreWordsIn w k) q
   Makes-block q l fields h =
       Makes-weaker (blocks_make_their_weight e encodes fields (over_fields (length fields) h.many) q l h.each)
@@ -118,10 +139,13 @@ module _ (p : Problem) (formed : IsFormed p) where
 
   -- from truth values that choose it, every block can be met
   module _ (kept : ℕ → Bool) (ts : List Tree) (d : IsDerived (encoding_of p) ts) (keeps : Keeps (encoding_of p) kept ts)
-      (v : ℕ → Bool) (agree : AgreeOnSelectors (encoding_of p) v kept) (q : Place) (l : 1 + selectors_of (encoding_of p) ≤ q.next) where
+      (v : ℕ → Bool) (agree : AgreeOnSelectors (encoding_of p) v kept) (q : Place)
+      (l : 1 + selectors_of (encoding_of p) ≤ q.next) where
+    -- from truth values that choose the trees, those of a block's words can be met
     pub Reaches-block : (fields : List (List ℕ)) → AreWordsIn w (all_fields p) q.next fields →
         Reaches v (block (encoding_of p) fields) q
-        (λ u r tuple. AreWordsIn w k r.next tuple × ReadsResults u (terms_of (encoding_of p) ts) (map (reads v) fields) tuple)
+        (λ u r tuple. AreWordsIn w k r.next tuple
+        × ReadsResults u (terms_of (encoding_of p) ts) (map (reads v) fields) tuple)
     Reaches-block fields h =
         Reaches-weaker (keeps.blocks v agree q l fields (over_fields (length fields) h.many) h.each)
         (λ u r tuple m same g. (

@@ -1,9 +1,11 @@
 -- What steps build: at most so many gates, so many inputs, and clauses, each over earlier variables.
-use Rattle.std.proofs.Common.{◌≡◌, ℕ, ◌+◌, ◌/◌, ◌%◌, ◌≤◌, ◌<◌, Bool, not, cond, eqb, List, [], ◌∷◌, ◌++◌, All, length, length-append, refl, sym, ap, subst, arith}
+use Rattle.std.proofs.Common.{◌≡◌, ℕ, ◌+◌, ◌/◌, ◌%◌, ◌≤◌, ◌<◌, Bool, not, cond, eqb, List, [], ◌∷◌, ◌++◌, All, length}
+use Rattle.std.proofs.Common.{length-append, refl, sym, ap, subst, arith}
 use Rattle.std.specs.Prelude.{IsTrue}
 use Rattle.std.proofs.lemmas.List.Elements.{All-nil}
 use Rattle.am_lit.specs.Truth.{literal_value, clause_value}
-use Rattle.am_gate.specs.Circuit.{Event, Event.Input, Event.And, Event.Xor, Event.Mux, Event.Clause, AreScoped, IsLiteral, inputs_of}
+use Rattle.am_gate.specs.Circuit.{Event, Event.Input, Event.And, Event.Xor, Event.Mux, Event.Clause, AreScoped}
+use Rattle.am_gate.specs.Circuit.{IsLiteral, inputs_of}
 use Rattle.am_gate.specs.Value.{Meets}
 use Rattle.am_gate.specs.Build.{Step, Place, past, ◌>>=◌, answer, ask, tell, AreGates, Means}
 use Rattle.am_gate.specs.Promises.{MakesGates}
@@ -18,10 +20,12 @@ pub record Builds {A : Type 0} (m : Step A) (gates count : ℕ) (Q : ℕ → A �
   pub most : (past p (m p).events).next ≤ p.next + (count + gates)
   pub given : Q (past p (m p).events).next (m p).value
 
-inputs_of-append : (p : Place) (es fs : List Event) → inputs_of p.next (es ++ fs) ≡ inputs_of p.next es ++ inputs_of (past p es).next fs
+inputs_of-append : (p : Place) (es fs : List Event) →
+    inputs_of p.next (es ++ fs) ≡ inputs_of p.next es ++ inputs_of (past p es).next fs
 unfolding past
 inputs_of-append p [] fs = refl
-inputs_of-append p (Input ∷ es) fs = ap (λ (xs : List ℕ). p.next ∷ xs) (inputs_of-append (record p { next = p.next + 1 }) es fs)
+inputs_of-append p (Input ∷ es) fs =
+    ap (λ (xs : List ℕ). p.next ∷ xs) (inputs_of-append (record p { next = p.next + 1 }) es fs)
 inputs_of-append p (And a b ∷ es) fs = inputs_of-append (record p { next = p.next + 1 }) es fs
 inputs_of-append p (Xor a b ∷ es) fs = inputs_of-append (record p { next = p.next + 1 }) es fs
 inputs_of-append p (Mux c a b ∷ es) fs = inputs_of-append (record p { next = p.next + 1 }) es fs
@@ -44,7 +48,8 @@ unfolding answer past
 Builds-answer a h = record { scoped = tt; inputs = refl; most = omega arith; given = h }
 
 -- a step of gates
-pub Builds-gates : {A : Type 0} {m : Step A} {k : ℕ} {Q : ℕ → A → Type 0} {p : Place} → MakesGates m k Q p → Builds m k 0 Q p
+pub Builds-gates : {A : Type 0} {m : Step A} {k : ℕ} {Q : ℕ → A → Type 0} {p : Place} → MakesGates m k Q p →
+    Builds m k 0 Q p
 Builds-gates {m = m} {p = p} h = record {
   scoped = h.scoped;
   inputs = ap length (inputs_of-gates p.next (m p).events h.gates);
@@ -68,7 +73,8 @@ unfolding tell past
 Builds-tell c p h = record { scoped = (h, tt); inputs = refl; most = omega arith; given = tt }
 
 -- one step after another
-pub Builds-bind : {A B : Type 0} {m : Step A} {p : Place} {j i g n : ℕ} {P : ℕ → A → Type 0} {Q : ℕ → B → Type 0} (f : A → Step B) (k l : ℕ) →
+pub Builds-bind : {A B : Type 0} {m : Step A} {p : Place} {j i g n : ℕ} {P : ℕ → A → Type 0} {Q : ℕ → B → Type 0}
+    (f : A → Step B) (k l : ℕ) →
     Builds m j i P p → j + k ≡ g → i + l ≡ n →
     ((a : A) (q : Place) → p.next ≤ q.next → P q.next a → Builds (f a) k l Q q) →
     Builds (m >>= f) g n Q p
@@ -87,7 +93,9 @@ Builds-bind {m = m} {p = p} {Q = Q} f k l one e d two =
     }
 
 -- the same with more gates
-pub Builds-more : {A : Type 0} {m : Step A} {j i : ℕ} {Q : ℕ → A → Type 0} {p : Place} (k : ℕ) → Builds m j i Q p → j ≤ k → Builds m k i Q p
+pub Builds-more : {A : Type 0} {m : Step A} {j i : ℕ} {Q : ℕ → A → Type 0} {p : Place} (k : ℕ) → Builds m j i Q p →
+    j ≤ k →
+    Builds m k i Q p
 Builds-more k h l = record { scoped = h.scoped; inputs = h.inputs; most = omega (arith, h.most, l); given = h.given }
 
 -- what follows from what is known of the value
@@ -103,7 +111,8 @@ Builds-weaker {m = m} {p = p} h more = record {
 -- truth values
 
 -- a literal has the same value where the earlier variables have
-pub literal-same : (u v : ℕ → Bool) (n l : ℕ) → ((x : ℕ) → x < n → u x ≡ v x) → IsLiteral n l → literal_value u l ≡ literal_value v l
+pub literal-same : (u v : ℕ → Bool) (n l : ℕ) → ((x : ℕ) → x < n → u x ≡ v x) → IsLiteral n l →
+    literal_value u l ≡ literal_value v l
 literal-same u v n l same h = ap (λ b. cond (eqb (l % 2) 0) b (not b)) (same (l / 2) h)
 
 -- a clause that was told is true
@@ -113,7 +122,8 @@ Means-tell v c = record { holds = λ p t h. h.0 }
 
 -- what follows from what truth values reach
 pub Reaches-weaker : {A : Type 0} {v : ℕ → Bool} {m : Step A} {p : Place} {Q R : (ℕ → Bool) → Place → A → Type 0} →
-    Reaches v m p Q → ((u : ℕ → Bool) (q : Place) (a : A) → p.next ≤ q.next → ((x : ℕ) → x < p.next → u x ≡ v x) → Q u q a → R u q a) →
+    Reaches v m p Q →
+    ((u : ℕ → Bool) (q : Place) (a : A) → p.next ≤ q.next → ((x : ℕ) → x < p.next → u x ≡ v x) → Q u q a → R u q a) →
     Reaches v m p R
 Reaches-weaker {m = m} {p = p} one more = record {
   scoped = one.scoped;

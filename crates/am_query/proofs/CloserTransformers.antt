@@ -1,4 +1,4 @@
--- The calls that state behind a fit that some transformer is closer, one after another.
+-- The calls that state after a fit that some transformer is closer, one after another.
 use Rattle.std.proofs.Common.{ℕ, ◌+◌, ◌*◌, ◌^◌, ◌≤◌, List, ◌∙◌, ap, arith}
 use Rattle.am_gate.specs.Build.{Follows, place_of}
 use Rattle.am_gate.specs.Circuit.{HasInputs, HasRoom, Net}
@@ -27,23 +27,28 @@ use Rattle.am_query.proofs.Tuples.{AreWordsIn-later}
 
 module _ (p : Problem) (is : IsProblem p) (terms : List Term) (t : IsTransformerOf p terms)
     (old one two : Net) (fields : List (List ℕ)) (word : List ℕ) (room : HasRoom (2 ^ 27) old)
-    (first : Gives (input_words p.width (all_fields p)) (all_fields p * p.width) (AreWordsIn p.width (all_fields p)) old fields one)
+    (first : Gives (input_words p.width (all_fields p)) (all_fields p * p.width) (AreWordsIn p.width (all_fields p)) old
+    fields one)
     (second : Gives (input_word p.width) p.width (IsWord p.width) one word two) where
   room_before : HasRoom (2 ^ 26 + 1) two
   room_before =
-      let middle : HasRoom (2 ^ 26 + 9) one = HasRoom-grown (2 ^ 26 + 9) first.grows room (omega (arith, few_field_bits p is)) in
+      let middle : HasRoom (2 ^ 26 + 9) one =
+      HasRoom-grown (2 ^ 26 + 9) first.grows room (omega (arith, few_field_bits p is)) in
       HasRoom-grown (2 ^ 26 + 1) second.grows middle (omega (arith, is.formed.width.1))
 
+  -- after the inputs there is room for what is stated of them
   pub room_for_comparing : HasRoom (comparing_weight p terms) two
   room_for_comparing =
       let small = comparing_small p is terms t in
       record { vars = omega (arith, room_before.vars, small); clauses = omega (arith, room_before.clauses, small) }
 
   module _ (new : Net) (third : States (comparing p terms fields word) (comparing_weight p terms) two tt new) where
+    -- the three calls follow the statement that some transformer is closer
     pub closer_stated : Follows (sought p terms) old tt new
     unfolding sought
     closer_stated = Follows-bind _ first.follows (Follows-bind _ second.follows third.follows)
 
+    -- the words that were made are those of the inputs of precision
     pub inputs_stand : ArePreciseInputs p old.vars new.vars (record { fields = fields; word = word })
     inputs_stand =
         let put_first = put-by first.follows (puts-input_words p.width (all_fields p) (place_of old)) in
@@ -51,16 +56,22 @@ module _ (p : Problem) (is : IsProblem p) (terms : List Term) (t : IsTransformer
         record {
           fields = put_first.0;
           word = put_second.0 ∙ ap (word_from p.width) put_first.1;
-          fields_inside = AreWordsIn-later p.width (all_fields p) one.vars new.vars fields (omega (arith, second.grows.not_less, third.grows.not_less)) first.given;
+          fields_inside =
+              AreWordsIn-later p.width (all_fields p) one.vars new.vars fields
+              (omega (arith, second.grows.not_less, third.grows.not_less)) first.given;
           word_inside = IsWord-later p.width two.vars new.vars word third.grows.not_less second.given;
         }
 
-    pub closer_inputs : 1 + selectors_of (encoding_of p) ≤ old.vars → (inputs : List ℕ) → HasInputs inputs two → HasInputs inputs new
+    -- what is stated of the inputs makes no further ones
+    pub closer_inputs : 1 + selectors_of (encoding_of p) ≤ old.vars → (inputs : List ℕ) → HasInputs inputs two
+        → HasInputs inputs new
     closer_inputs least inputs h =
         HasInputs-quiet h third.follows
         (Builds-comparing p is.formed terms (derivable_terms_fit p is.formed terms t) (place_of two) fields word
         (omega (arith, least, first.grows.not_less, second.grows.not_less))
-        (AreWordsIn-later p.width (all_fields p) one.vars two.vars fields second.grows.not_less first.given) second.given)
+        (AreWordsIn-later p.width (all_fields p) one.vars two.vars fields second.grows.not_less first.given)
+        second.given)
 
+    -- there is room left after them
     pub room_behind : HasRoom 1 new
     room_behind = HasRoom-grown 1 third.grows room_before (omega (arith, comparing_small p is terms t))

@@ -27,7 +27,8 @@ use Rattle.am_query.specs.inside.Statements.{Any}
 use Rattle.am_query.proofs.Builds.{Builds, Builds-bind, Builds-gates}
 use Rattle.am_query.specs.inside.Words.{AreWordsIn}
 use Rattle.am_query.proofs.Tuples.{AreLong, AreLong-words, constants-read, constants-words}
-use Rattle.am_query.proofs.Membership.{Builds-admitted, Builds-excluded, Means-admitted, Means-excluded, Reaches-admitted, Reaches-excluded}
+use Rattle.am_query.proofs.Membership.{Builds-admitted, Builds-excluded, Means-admitted, Means-excluded}
+use Rattle.am_query.proofs.Membership.{Reaches-admitted, Reaches-excluded}
 use Rattle.am_query.proofs.Blocks.{Makes-block, Means-block, Reaches-block, ReadsResults}
 
 module _ (p : Problem) (formed : IsFormed p) where
@@ -53,18 +54,21 @@ module _ (p : Problem) (formed : IsFormed p) where
   fields-words n pos row is = subst (λ c. AreWordsIn w c n (fields row)) is.counted (constants-words w n pos row)
 
   fields-long : (row : List ℕ) → IsRow p row → AreLong w (all_fields p) (fields row)
-  fields-long row is = let one : 0 < 1 = omega arith in AreLong-words w (all_fields p) 1 (fields row) (fields-words 1 one row is)
+  fields-long row is =
+      let one : 0 < 1 = omega arith in AreLong-words w (all_fields p) 1 (fields row) (fields-words 1 one row is)
 
   fields-read : (v : ℕ → Bool) → IsTrue (v 0) → (row : List ℕ) → IsRow p row → map (reads v) (fields row) ≡ row
   fields-read v t row is = constants-read v w t row is.words
 
   -- the block at a row of constants reads as the result there
-  read-result : (v : ℕ → Bool) → IsTrue (v 0) → (terms : List Term) (row : List ℕ) → IsRow p row → (tuple : List (List ℕ)) →
+  read-result : (v : ℕ → Bool) → IsTrue (v 0) → (terms : List Term) (row : List ℕ) → IsRow p row →
+      (tuple : List (List ℕ)) →
       ReadsResults p formed v terms (map (reads v) (fields row)) tuple → map (reads v) tuple ≡ result terms row
   read-result v t terms row is tuple r = r.values ∙ ap (result terms) (fields-read v t row is)
 
   -- ---- what the statements mean
 
+  -- where a positive example is stated, the chosen transformer satisfies it
   pub Means-covered : (v : ℕ → Bool) (ts : List Tree) → Serves (encoding_of p) v ts → (x : Positive) → IsPositive p x →
       Means v (covered p x) (λ u. Covers (question_of p) (terms_of (encoding_of p) ts) (positive_of p x))
   unfolding covered
@@ -75,7 +79,9 @@ module _ (p : Problem) (formed : IsFormed p) where
       (λ tuple r. Means-weaker (Means-admitted p formed v tuple (constant w c) r.long (length-constant w c))
       (λ u h. rw (read-result v t (terms_of e ts) x.inputs is.row tuple r, reads-constant v w c t below) at h)))
 
-  pub Means-uncovered : (v : ℕ → Bool) (ts : List Tree) → Serves (encoding_of p) v ts → (x : Negative) → IsNegative p x →
+  -- where a negative example is stated, the chosen transformer satisfies it
+  pub Means-uncovered : (v : ℕ → Bool) (ts : List Tree) → Serves (encoding_of p) v ts → (x : Negative) →
+      IsNegative p x →
       Means v (uncovered p x) (λ u. Excludes (question_of p) (terms_of (encoding_of p) ts) (negative_of p x))
   unfolding uncovered
   Means-uncovered v ts serves x is =
@@ -85,49 +91,68 @@ module _ (p : Problem) (formed : IsFormed p) where
 
   -- ---- what they build
 
-  pub Builds-covered : (x : Positive) → IsPositive p x → (q : Place) → 1 + selectors_of (encoding_of p) ≤ q.next → Builds (covered p x) (example_weight p) 0 Any q
+  -- a positive example builds no more than the weight of an example
+  pub Builds-covered : (x : Positive) → IsPositive p x → (q : Place) → 1 + selectors_of (encoding_of p) ≤ q.next →
+      Builds (covered p x) (example_weight p) 0 Any q
   unfolding covered
   Builds-covered x is q l =
       let pos : 0 < q.next = omega (arith, l) in
-      Builds-bind _ (member_weight p) 0 (Builds-gates (Makes-block p formed q l (fields x.inputs) (fields-words q.next pos x.inputs is.row))) refl refl
-      (λ tuple r m words. Builds-admitted p formed r tuple _ (omega (arith, pos, m)) words (IsWord-constant w _ r.next (omega (arith, pos, m))))
+      Builds-bind _ (member_weight p) 0
+      (Builds-gates (Makes-block p formed q l (fields x.inputs) (fields-words q.next pos x.inputs is.row))) refl refl
+      (λ tuple r m words. Builds-admitted p formed r tuple _ (omega (arith, pos, m)) words
+      (IsWord-constant w _ r.next (omega (arith, pos, m))))
 
-  pub Builds-uncovered : (x : Negative) → IsNegative p x → (q : Place) → 1 + selectors_of (encoding_of p) ≤ q.next → Builds (uncovered p x) (example_weight p) 0 Any q
+  -- a negative example builds no more than the weight of an example
+  pub Builds-uncovered : (x : Negative) → IsNegative p x → (q : Place) → 1 + selectors_of (encoding_of p) ≤ q.next →
+      Builds (uncovered p x) (example_weight p) 0 Any q
   unfolding uncovered
   Builds-uncovered x is q l =
       let pos : 0 < q.next = omega (arith, l) in
-      Builds-bind _ (member_weight p) 0 (Builds-gates (Makes-block p formed q l (fields x.inputs) (fields-words q.next pos x.inputs is.row))) refl refl
-      (λ tuple r m words. Builds-excluded p formed r tuple _ (omega (arith, pos, m)) words (IsWord-constant w _ r.next (omega (arith, pos, m))))
+      Builds-bind _ (member_weight p) 0
+      (Builds-gates (Makes-block p formed q l (fields x.inputs) (fields-words q.next pos x.inputs is.row))) refl refl
+      (λ tuple r m words. Builds-excluded p formed r tuple _ (omega (arith, pos, m)) words
+      (IsWord-constant w _ r.next (omega (arith, pos, m))))
 
   -- ---- which truth values they reach
 
   module _ (kept : ℕ → Bool) (ts : List Tree) (d : IsDerived (encoding_of p) ts) (keeps : Keeps (encoding_of p) kept ts)
-      (v : ℕ → Bool) (t : IsTrue (v 0)) (agree : AgreeOnSelectors (encoding_of p) v kept) (q : Place) (l : 1 + selectors_of (encoding_of p) ≤ q.next) where
+      (v : ℕ → Bool) (t : IsTrue (v 0)) (agree : AgreeOnSelectors (encoding_of p) v kept) (q : Place)
+      (l : 1 + selectors_of (encoding_of p) ≤ q.next) where
     pos : 0 < q.next
     pos = omega (arith, l)
 
     -- an example that a transformer covers can be stated once it is chosen
-    pub Reaches-covered : (x : Positive) → IsPositive p x → Covers (question_of p) (terms_of (encoding_of p) ts) (positive_of p x) →
+    pub Reaches-covered : (x : Positive) → IsPositive p x →
+        Covers (question_of p) (terms_of (encoding_of p) ts) (positive_of p x) →
         Reaches v (covered p x) q (λ u r a. Unit {0})
     unfolding covered
     Reaches-covered x is h =
         let c = val w p.operation x.words in
         let below : c < 2 ^ w = operations_give_words p formed x.words is.words in
-        Reaches-bind _ (Reaches-block p formed kept ts d keeps v agree q l (fields x.inputs) (fields-words q.next pos x.inputs is.row))
+        Reaches-bind _
+        (Reaches-block p formed kept ts d keeps v agree q l (fields x.inputs) (fields-words q.next pos x.inputs is.row))
         (λ u tuple r m same g.
         let start = same 0 pos ∙ t in
         let first : 0 < r.next = omega (arith, pos, m) in
         Reaches-admitted p formed u r first start tuple (constant w c) g.0 (IsWord-constant w c r.next first)
-        (rw (g.1.values ∙ ap (result (terms_of e ts)) (fields-read v t x.inputs is.row), reads-constant u w c start below) h))
+        (rw (
+          g.1.values ∙ ap (result (terms_of e ts)) (fields-read v t x.inputs is.row),
+          reads-constant u w c start below,
+        ) h))
 
     -- an example that it excludes can be, too
-    pub Reaches-uncovered : (x : Negative) → IsNegative p x → Excludes (question_of p) (terms_of (encoding_of p) ts) (negative_of p x) →
+    pub Reaches-uncovered : (x : Negative) → IsNegative p x →
+        Excludes (question_of p) (terms_of (encoding_of p) ts) (negative_of p x) →
         Reaches v (uncovered p x) q (λ u r a. Unit {0})
     unfolding uncovered
     Reaches-uncovered x is h =
-        Reaches-bind _ (Reaches-block p formed kept ts d keeps v agree q l (fields x.inputs) (fields-words q.next pos x.inputs is.row))
+        Reaches-bind _
+        (Reaches-block p formed kept ts d keeps v agree q l (fields x.inputs) (fields-words q.next pos x.inputs is.row))
         (λ u tuple r m same g.
         let start = same 0 pos ∙ t in
         let first : 0 < r.next = omega (arith, pos, m) in
         Reaches-excluded p formed u r first start tuple (constant w x.word) g.0 (IsWord-constant w x.word r.next first)
-        (rw (g.1.values ∙ ap (result (terms_of e ts)) (fields-read v t x.inputs is.row), reads-constant u w x.word start is.word) h))
+        (rw (
+          g.1.values ∙ ap (result (terms_of e ts)) (fields-read v t x.inputs is.row),
+          reads-constant u w x.word start is.word,
+        ) h))

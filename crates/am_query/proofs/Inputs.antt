@@ -1,5 +1,6 @@
 -- Words of inputs, which may read any words.
-use Rattle.std.proofs.Common.{◌≡◌, ℕ, zero, suc, ◌*◌, ◌/◌, ◌%◌, ◌^◌, ◌<◌, Bool, true, false, not, cond, eqb, ltb, List, [], ◌∷◌, map, length, refl, ◌∙◌, ap, subst, arith}
+use Rattle.std.proofs.Common.{◌≡◌, ℕ, zero, suc, ◌*◌, ◌/◌, ◌%◌, ◌^◌, ◌<◌, Bool, true, false, not, cond, eqb, ltb, List}
+use Rattle.std.proofs.Common.{[], ◌∷◌, map, length, refl, ◌∙◌, ap, subst, arith}
 use Rattle.std.proofs.Math.Nat.{pow-succ'}
 use Rattle.std.proofs.lemmas.Bool.Decides.{nat_tests}
 use Rattle.std.proofs.lemmas.List.Elements.{All-nil, All-cons}
@@ -34,14 +35,16 @@ from_on-at : (n : ℕ) (b : Bool) (v : ℕ → Bool) → from_on n b v n ≡ b
 from_on-at n b v = grind (arith, nat_tests)
 
 -- an input may have either value
-pub Reaches-input : (b : Bool) (v : ℕ → Bool) (p : Place) → Reaches v (ask Input) p (λ u q l. IsLiteral q.next l × (literal_value u l ≡ b))
+pub Reaches-input : (b : Bool) (v : ℕ → Bool) (p : Place) →
+    Reaches v (ask Input) p (λ u q l. IsLiteral q.next l × (literal_value u l ≡ b))
 unfolding ask past Meets
 Reaches-input b v p = record {
   scoped = rw (never-input p.folding) (All-nil (IsLiteral p.next), tt);
   values = from_on p.next b v;
   below = from_on-below p.next b v;
   meets = rw (never-input p.folding) (tt, tt);
-  given = rw (never-input p.folding) (omega arith, literal_value-even (from_on p.next b v) p.next ∙ from_on-at p.next b v);
+  given = rw (never-input p.folding)
+      (omega arith, literal_value-even (from_on p.next b v) p.next ∙ from_on-at p.next b v);
 }
 
 -- ---- a word
@@ -66,6 +69,7 @@ Means-input_word v zero = Means-answer _ refl
 Means-input_word v (suc w) =
     Means-bind _ (one_input v) (λ l t. Means-bind _ (Means-input_word v w) (λ ls h. Means-answer _ (ap suc h)))
 
+-- a word of inputs is so many inputs, and nothing else
 pub Builds-input_word : (w : ℕ) (p : Place) → Builds (input_word w) 0 w (IsWord w) p
 unfolding input_word in_turn
 Builds-input_word zero p = Builds-answer _ (IsWord-nil p.next)
@@ -97,8 +101,10 @@ Means-input_words v w zero = Means-answer _ (record { many = refl; bits = All-ni
 Means-input_words v w (suc count) =
     Means-bind _ (Means-input_word v w)
     (λ word h. Means-bind _ (Means-input_words v w count)
-    (λ words rest. Means-answer _ (record { many = ap suc rest.many; bits = All-cons (λ word. length word ≡ w) word words h rest.bits })))
+    (λ words rest. Means-answer _
+    (record { many = ap suc rest.many; bits = All-cons (λ word. length word ≡ w) word words h rest.bits })))
 
+-- words of inputs are so many inputs each, and nothing else
 pub Builds-input_words : (w count : ℕ) (p : Place) → Builds (input_words w count) 0 (count * w) (AreWordsIn w count) p
 unfolding input_words in_turn
 Builds-input_words w zero p =
@@ -107,7 +113,8 @@ Builds-input_words w zero p =
 Builds-input_words w (suc count) p =
     Builds-bind _ 0 (count * w) (Builds-input_word w p) refl (omega arith)
     (λ word q m one. Builds-bind _ 0 0 (Builds-input_words w count q) refl (omega arith)
-    (λ words r n rest. Builds-answer _ (AreWordsIn-cons w count r.next word words (IsWord-later w q.next r.next word n one) rest)))
+    (λ words r n rest. Builds-answer _
+    (AreWordsIn-cons w count r.next word words (IsWord-later w q.next r.next word n one) rest)))
 
 -- they may read any words
 pub Reaches-input_words : (w count : ℕ) (cs : List ℕ) → length cs ≡ count → AreWords w cs → (v : ℕ → Bool) (p : Place) →

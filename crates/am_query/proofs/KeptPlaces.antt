@@ -267,19 +267,24 @@ module _ (p : Problem) (positives : List Positive) (negatives : List Negative) w
 
 -- ---- the laws
 
+-- before the first example no place is kept
 pub none_is_kept_at_first : NoneIsKeptAtFirst
 none_is_kept_at_first = at_first
 
+-- the next place is kept exactly where some transformer satisfies its example beside the kept ones
 pub kept_grow : KeptGrow
 kept_grow p positives negatives n places kept =
     (kept_more p positives negatives n places kept, kept_same p positives negatives n places kept)
 
+-- two rows of kept places are the same
 pub kept_are_determined : KeptAreDetermined
 kept_are_determined = determined
 
+-- where the positive examples can be satisfied, they can be beside the kept ones
 pub kept_are_satisfied : KeptAreSatisfied
 kept_are_satisfied = satisfied
 
+-- where the positive examples can't be satisfied, nothing is kept
 pub nothing_is_kept : NothingIsKept
 nothing_is_kept p positives negatives n places none =
     (nothing p positives negatives n places none, λ e. rw e (kept_none p positives negatives n none))

@@ -40,12 +40,14 @@ module _ (p : Problem) (is : IsProblem p) where
   pub few_field_bits : all_fields p * p.width ≤ 96
   few_field_bits = few-bits (all_fields p) (rows_are_short p is.formed)
 
+  -- the words of all inputs have at most 96 bits
   pub few_word_bits : p.inputs * p.width ≤ 96
   few_word_bits = few-bits p.inputs (omega (arith, is.formed.few_inputs))
 
   each-input : (k : ℕ) → p.inputs * (k + 1) ≤ 3 * (k + 1)
   each-input k = mul-le-mul_right (k + 1) is.formed.few_inputs
 
+  -- what is stated of soundness is light
   pub failing_small : (terms : List Term) → IsTransformerOf p terms → failing_weight p terms ≤ 2 ^ 26
   failing_small terms t =
       let l = are_light in
@@ -61,6 +63,7 @@ module _ (p : Problem) (is : IsProblem p) where
         transformers_weigh p is.formed terms t,
       )
 
+  -- what is stated of precision after the fit is light
   pub comparing_small : (terms : List Term) → IsTransformerOf p terms → comparing_weight p terms ≤ 2 ^ 26
   comparing_small terms t =
       let l = are_light in

@@ -52,18 +52,22 @@ puts-input_words w zero p = subst (Puts (input_words w 0) p []) (omega arith) (p
 puts-input_words w (suc count) p =
     puts-bind (count * w) (suc count * w) _ (puts-input_word w p) (omega arith)
     (λ q e. puts-bind 0 (count * w) _
-    (subst (λ x. Puts (input_words w count) q (words_from w count x) (count * w)) e (puts-input_words w count q)) (omega arith)
+    (subst (λ x. Puts (input_words w count) q (words_from w count x) (count * w)) e (puts-input_words w count q))
+    (omega arith)
     (λ r f. puts-answer (words_from w (suc count) p.next) r))
 
--- what truth values reach is known of the step's own value, and of the place behind it
+-- what truth values reach is known of the step's own value, and of the place after it
 pub Reaches-own : {A : Type 0} {v : ℕ → Bool} {m : Step A} {p : Place} {Q : (ℕ → Bool) → Place → A → Type 0} →
     Reaches v m p Q → Reaches v m p (λ u q a. Q u q a × (a ≡ (m p).value) × (q ≡ past p (m p).events))
-Reaches-own r = record { scoped = r.scoped; values = r.values; below = r.below; meets = r.meets; given = (r.given, refl, refl) }
+Reaches-own r =
+    record { scoped = r.scoped; values = r.values; below = r.below; meets = r.meets; given = (r.given, refl, refl) }
 
 -- what a call gives that follows a step
-pub put-by : {A : Type 0} {m : Step A} {old new : Net} {r a : A} {count : ℕ} → Follows m old r new → Puts m (place_of old) a count →
+pub put-by : {A : Type 0} {m : Step A} {old new : Net} {r a : A} {count : ℕ} → Follows m old r new →
+    Puts m (place_of old) a count →
     (r ≡ a) × (new.vars ≡ old.vars + count)
 put-by {m = m} {old = old} f puts = (
   f.value ∙ puts.value,
-  ap (λ (n : Net). n.vars) f.circuit ∙ ap (λ (q : Place). q.next) (place_of-built old (m (place_of old)).events) ∙ puts.next,
+  ap (λ (n : Net). n.vars) f.circuit ∙ ap (λ (q : Place). q.next) (place_of-built old (m (place_of old)).events)
+      ∙ puts.next,
 )

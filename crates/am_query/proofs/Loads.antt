@@ -64,22 +64,27 @@ module _ (p : Problem) (is : IsProblem p) where
     failing-load : failing_gates p is.formed terms fit ≤ load_of p
     failing-load =
         let weigh = transformers_weigh p is.formed terms derivable in
-        let members : p.inputs * member_weight p ≤ 3 * member_weight p = mul-le-mul_right (member_weight p) is.formed.few_inputs in
-        let valid : p.inputs * valid_weight p ≤ 3 * valid_weight p = mul-le-mul_right (valid_weight p) is.formed.few_inputs in
+        let members : p.inputs * member_weight p ≤ 3 * member_weight p =
+        mul-le-mul_right (member_weight p) is.formed.few_inputs in
+        let valid : p.inputs * valid_weight p ≤ 3 * valid_weight p =
+        mul-le-mul_right (valid_weight p) is.formed.few_inputs in
         let two : 2 ≤ p.turns + 2 = omega arith in
         let turns : 2 * part ≤ (p.turns + 2) * part = mul-le-mul_right part two in
         omega (arith, weigh, members, valid, turns)
 
-    module _ (pos : List Positive) (neg : List Negative) (positives : All (IsPositive p) pos) (negatives : All (IsNegative p) neg) where
+    module _ (pos : List Positive) (neg : List Negative) (positives : All (IsPositive p) pos)
+        (negatives : All (IsNegative p) neg) where
       abbrev fitted : ℕ
       fitted = (length pos + length neg) * example_weight p
 
       Builds-precise : (q : Place) → q.next ≡ 1 →
-          Builds (precise p terms pos neg) (fitted + comparing_gates p is.formed terms fit) (selectors_of (encoding_of p) + (all_fields p + 1) * w) Any q
+          Builds (precise p terms pos neg) (fitted + comparing_gates p is.formed terms fit)
+          (selectors_of (encoding_of p) + (all_fields p + 1) * w) Any q
       unfolding precise comparing
       Builds-precise q first =
           let gates = comparing_gates p is.formed terms fit in
-          Builds-bind _ gates ((all_fields p + 1) * w) (Builds-fit p is.formed pos neg positives negatives q first) refl refl
+          Builds-bind _ gates ((all_fields p + 1) * w) (Builds-fit p is.formed pos neg positives negatives q first)
+          refl refl
           (λ u q1 l1 some. Builds-bind _ gates w (Builds-input_words w (all_fields p) q1) (omega arith) (omega arith)
           (λ fields q2 l2 h. Builds-bind _ gates 0 (Builds-input_word w q2) (omega arith) (omega arith)
           (λ word q3 l3 e. Builds-comparing p is.formed terms fit q3 fields word (omega (arith, some, l2, l3))
@@ -89,29 +94,34 @@ module _ (p : Problem) (is : IsProblem p) where
       comparing-load : length pos + length neg ≤ p.turns → fitted + comparing_gates p is.formed terms fit ≤ load_of p
       comparing-load few =
           let weigh = transformers_weigh p is.formed terms derivable in
-          let valid : p.inputs * valid_weight p ≤ 3 * valid_weight p = mul-le-mul_right (valid_weight p) is.formed.few_inputs in
+          let valid : p.inputs * valid_weight p ≤ 3 * valid_weight p =
+          mul-le-mul_right (valid_weight p) is.formed.few_inputs in
           let each : example_weight p ≤ part = omega arith in
           let turns : fitted ≤ p.turns * part = mul-le-mul few each in
           omega (arith, weigh, valid, turns)
 
   -- ---- their circuits
 
-  vars-built : {A : Type 0} {m : Step A} {k i : ℕ} {Q : ℕ → A → Type 0} (folding : Bool) → Builds m k i Q (place_of (start folding)) → k ≤ load_of p →
+  vars-built : {A : Type 0} {m : Step A} {k i : ℕ} {Q : ℕ → A → Type 0} (folding : Bool) →
+      Builds m k i Q (place_of (start folding)) → k ≤ load_of p →
       (built (start folding) (m (place_of (start folding))).events).vars ≤ 1 + i + load_of p
   vars-built {m = m} folding b l =
       let there = ap (λ (q : Place). q.next) (place_of-built (start folding) (m (place_of (start folding))).events) in
       omega (arith, there, b.most, l)
 
-  vars-bounded : (folding : Bool) (q : Query) → IsQueryOf p q → (circuit_of folding p q).vars ≤ 1 + input_count p q + load_of p
+  vars-bounded : (folding : Bool) (q : Query) → IsQueryOf p q →
+      (circuit_of folding p q).vars ≤ 1 + input_count p q + load_of p
   vars-bounded folding (Fit pos neg) h =
-      let each : (length pos + length neg) * example_weight p ≤ (length pos + length neg) * (example_weight p + 1) = omega arith in
+      let each : (length pos + length neg) * example_weight p ≤ (length pos + length neg) * (example_weight p + 1) =
+      omega arith in
       vars-built folding (Builds-fit p is.formed pos neg h.positives h.negatives (place_of (start folding)) refl)
       (omega (arith, each, examples-load (length pos + length neg) h.few))
   vars-bounded folding (Sound t) h =
       let first : 0 < 1 = omega arith in
       vars-built folding (Builds-sound t h (place_of (start folding)) first) (failing-load t h)
   vars-bounded folding (Precise t pos neg) h =
-      vars-built folding (Builds-precise t h.transformer pos neg h.stored.positives h.stored.negatives (place_of (start folding)) refl)
+      vars-built folding
+      (Builds-precise t h.transformer pos neg h.stored.positives h.stored.negatives (place_of (start folding)) refl)
       (comparing-load t h.transformer pos neg h.stored.positives h.stored.negatives h.stored.few)
 
 -- beside the true variable and its inputs, the circuit of a query has at most as many gates as the load

@@ -1,5 +1,5 @@
 -- What is accepted is right, and what a synthesis shows is accepted.
-use Rattle.std.proofs.Common.{◌≡◌, ℕ, suc, List, [], ◌∷◌, length, map, zip, refl, sym, ap, subst, arith}
+use Rattle.std.proofs.Common.{◌≡◌, ℕ, Bool, suc, List, [], ◌∷◌, length, map, zip, refl, sym, ap, subst, arith}
 use Rattle.std.specs.List.{All}
 use Rattle.std.proofs.lemmas.List.Elements.{All-cons, All-head, All-map, All-nil, All-tail, All-weaker}
 use Rattle.am_bv.specs.declared.term.Term.{Term}
@@ -11,14 +11,23 @@ use Rattle.am_problem.specs.declared.examples.Negative.{Negative}
 use Rattle.am_problem.specs.declared.examples.Positive.{Positive}
 use Rattle.am_tree.specs.Trees.{AreTrees, terms_of}
 use Rattle.am_tree.specs.declared.tree.Tree.{Tree}
-use Rattle.am_query.specs.Acceptance.{IsExcluded, IsGiven, each_is, terms_inside}
-use Rattle.am_query.specs.AcceptanceLaws.{AbsentIsAccepted, AcceptedIsRight, BestIsAccepted}
+use Rattle.am_gate.specs.Circuit.{Net}
+use Rattle.am_hint.proofs.Laws.{hint_refutations_are_sound}
+use Rattle.am_lit.specs.Truth.{IsSatisfiable}
+use Rattle.am_problem.specs.Limits.{IsFormed}
+use Rattle.am_query.specs.Acceptance.{IsExcluded, IsGiven, Test, acceptance_by, each_is, first_log, hints_refute}
+use Rattle.am_query.specs.Acceptance.{refuted, second_log, terms_inside}
+use Rattle.am_query.specs.AcceptanceLaws.{AbsentIsAccepted, AcceptedIsRight, AcceptedWithHintsIsRight, BestIsAccepted}
+use Rattle.am_query.specs.AcceptanceLaws.{FitsInto, IsRight}
+use Rattle.am_query.specs.Formulas.{circuit_of}
 use Rattle.am_query.specs.Transformers.{IsTransformerOf}
 use Rattle.am_query.specs.Turns.{after_trace}
 use Rattle.am_query.specs.declared.fault.Fault.{Fault}
 use Rattle.am_query.specs.declared.fault.Fault.TheVariants.{NegativeFalse, PositiveFalse, TermOutside}
+use Rattle.am_query.specs.declared.outcome.Outcome.{Outcome}
 use Rattle.am_query.specs.declared.outcome.Outcome.TheVariants.{Absent, Best, Conflicts, Turns}
-use Rattle.am_query.proofs.Refuted.{refutations_mean}
+use Rattle.am_query.specs.declared.query.Query.TheVariants.{Fit, Precise, Sound}
+use Rattle.am_query.proofs.Refuted.{refutations_mean, unsatisfied}
 use Rattle.am_query.proofs.Shown.{traces_show}
 use Rattle.am_query.proofs.Verdicts.{each_passes}
 
@@ -95,8 +104,14 @@ module _ (p : Problem) where
     subst (λ (ts : List Term). length ts ≡ length p.starts) (sym are.give) (one_each p.starts are.trees are.derive),
   )
 
-pub accepted_is_right : AcceptedIsRight
-accepted_is_right folding p formed (Best t trace sound_log best_log) fits passes =
+-- a test that a formula is refuted passes only where it isn't satisfiable
+abbrev Refuting : (Net → Test) → Type 0
+Refuting test = (c : Net) → (test c).Passes → ¬ IsSatisfiable c.clauses
+
+-- what passes by tests that refute is right
+right_by : (folding : Bool) (p : Problem) → IsFormed p → (o : Outcome) → FitsInto p o → (first second : Net → Test) →
+    Refuting first → Refuting second → (acceptance_by folding p o first second).Passes → IsRight p o
+right_by folding p formed (Best t trace sound_log best_log) fits first second one two passes =
     let q = question_of p in
     let mean = refutations_mean folding p formed in
     let s = after_trace trace in
@@ -105,22 +120,40 @@ accepted_is_right folding p formed (Best t trace sound_log best_log) fits passes
     let negative = all_passed (IsExcluded p t) NegativeFalse 0 s.negatives passes.1.1.0 in
     let valid = All-weaker (IsExcluded p t) (IsValidHere p) (λ e h. h.0) s.negatives negative in
     let excludes = All-weaker (IsExcluded p t) (ExcludesHere p t) (λ e h. h.1) s.negatives negative in
+    let precise = circuit_of folding p (Precise t s.positives s.negatives) in
     none_betters q t (positives_of p s.positives) (negatives_of p s.negatives) derives
-    (mean.sound t sound_log derives passes.1.1.1.0)
+    (mean.sound t derives (one (circuit_of folding p (Sound t)) passes.1.1.1.0))
     (All-map (IsTrueExample q) (positive_of p) s.positives positive)
     (All-map (IsValidExample q) (negative_of p) s.negatives valid)
     (All-map (Excludes q t) (negative_of p) s.negatives excludes)
-    (mean.closest t s.positives s.negatives best_log derives fits.positives fits.negatives passes.1.1.1.1)
-accepted_is_right folding p formed (Absent trace log) fits passes =
+    (mean.closest t s.positives s.negatives derives fits.positives fits.negatives (two precise passes.1.1.1.1))
+right_by folding p formed (Absent trace log) fits first second one two passes =
     let q = question_of p in
     let mean = refutations_mean folding p formed in
     let s = after_trace trace in
     let positive = all_passed (IsTrueHere p) PositiveFalse 0 s.positives passes.0 in
     none_is_sound q (positives_of p s.positives) (All-map (IsTrueExample q) (positive_of p) s.positives positive)
-    (mean.none s.positives [] log fits.positives (All-nil (IsNegative p)) passes.1)
-accepted_is_right folding p formed (Turns trace) fits passes = passes
-accepted_is_right folding p formed (Conflicts trace asked log) fits passes = passes
+    (mean.none s.positives [] fits.positives (All-nil (IsNegative p))
+    (one (circuit_of folding p (Fit s.positives [])) passes.1))
+right_by folding p formed (Turns trace) fits first second one two passes = passes
+right_by folding p formed (Conflicts trace asked log) fits first second one two passes = passes
 
+-- what an accepted outcome says is right
+pub accepted_is_right : AcceptedIsRight
+accepted_is_right folding p formed o fits passes =
+    right_by folding p formed o fits (λ c. refuted 0 c.clauses (first_log o)) (λ c. refuted 1 c.clauses (second_log o))
+    (λ c refutes. unsatisfied c.clauses (first_log o) refutes)
+    (λ c refutes. unsatisfied c.clauses (second_log o) refutes) passes
+
+-- so is what is accepted by hints
+pub accepted_with_hints_is_right : AcceptedWithHintsIsRight
+accepted_with_hints_is_right folding p formed o fits first second passes =
+    right_by folding p formed o fits
+    (λ c. hints_refute 0 c.vars c.clauses first) (λ c. hints_refute 1 c.vars c.clauses second)
+    (λ c refutes. hint_refutations_are_sound c.vars c.clauses first refutes)
+    (λ c refutes. hint_refutations_are_sound c.vars c.clauses second refutes) passes
+
+-- a best transformer with its trace and two refutations is accepted
 pub best_is_accepted : BestIsAccepted
 best_is_accepted folding p t trace sound_log best_log turns candidate sound best =
     let q = question_of p in
@@ -134,5 +167,6 @@ best_is_accepted folding p t trace sound_log best_log turns candidate sound best
       ),
     )
 
+-- a trace whose positive examples are refuted is accepted
 pub absent_is_accepted : AbsentIsAccepted
 absent_is_accepted folding p trace log turns refutes = (each_passes _ _ 0 _ (traces_show p trace turns).true, refutes)

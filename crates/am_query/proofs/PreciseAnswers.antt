@@ -28,12 +28,14 @@ use Rattle.am_query.specs.declared.query.Query.TheVariants.{Fit, Precise}
 use Rattle.am_query.proofs.PreciseFormula.{closer_ones_are_chosen, fit_chosen, unsatisfied_precision_has_none_closer}
 
 module _ (p : Problem) (terms : List Term) (pos : List Positive) (neg : List Negative) where
-  -- what was stated behind a fit is the whole
-  pub precise_stated : {old mid new : Net} → Follows (fit p pos neg) old tt mid → Follows (sought p terms) mid tt new → Follows (precise p terms pos neg) old tt new
+  -- what was stated after a fit is the whole
+  pub precise_stated : {old mid new : Net} → Follows (fit p pos neg) old tt mid → Follows (sought p terms) mid tt new →
+      Follows (precise p terms pos neg) old tt new
   unfolding precise sought comparing
   precise_stated one two = Follows-bind _ one two
 
-module _ (p : Problem) (formed : IsFormed p) (terms : List Term) (pos : List Positive) (neg : List Negative) (are : AreCompared p terms pos neg) where
+module _ (p : Problem) (formed : IsFormed p) (terms : List Term) (pos : List Positive) (neg : List Negative)
+    (are : AreCompared p terms pos neg) where
   comparison : IsComparison p terms pos neg
   comparison = record {
     formed = formed;
@@ -43,22 +45,30 @@ module _ (p : Problem) (formed : IsFormed p) (terms : List Term) (pos : List Pos
   }
 
   -- the trees that truth values choose derive
-  pub chosen_derive : (v : ℕ → Bool) → Satisfies v (circuit_of true p (Precise terms pos neg)).clauses → IsDerived (encoding_of p) (decoded (encoding_of p) v)
+  pub chosen_derive : (v : ℕ → Bool) → Satisfies v (circuit_of true p (Precise terms pos neg)).clauses →
+      IsDerived (encoding_of p) (decoded (encoding_of p) v)
   chosen_derive v h = (fit_chosen p terms pos neg comparison true v h).serves.derived
 
   -- the transformer and the example that truth values choose which satisfy the formula
   pub read_closer : (v : ℕ → Bool) → Satisfies v (circuit_of true p (Precise terms pos neg)).clauses →
       (vars : ℕ) (i : PreciseInputs) → ArePreciseInputs p (circuit_of true p (Fit pos neg)).vars vars i →
-      (e : Negative) → e.inputs ≡ map (reads v) i.fields → e.word ≡ reads v i.word → IsCloser p terms pos neg (chosen_terms p v) e
+      (e : Negative) → e.inputs ≡ map (reads v) i.fields → e.word ≡ reads v i.word →
+      IsCloser p terms pos neg (chosen_terms p v) e
   read_closer v h vars i stand e inputs given =
       let x = (circuit_of true p (Fit pos neg)).vars in
       let same : e ≡ chosen_negative p x v =
-      ap (λ row. let r : Negative = record { inputs = row; word = e.word } in r) (inputs ∙ ap (map (reads v)) stand.fields)
-      ∙ ap (λ c. let r : Negative = record { inputs = map (reads v) (words_from p.width (all_fields p) x); word = c } in r) (given ∙ ap (reads v) stand.word) in
-      subst (IsCloser p terms pos neg (chosen_terms p v)) (sym same) (closer_ones_are_chosen true p terms pos neg comparison v h)
+      ap (λ row. let r : Negative = record { inputs = row; word = e.word } in r)
+      (inputs ∙ ap (map (reads v)) stand.fields)
+      ∙ ap
+      (λ c. let r : Negative = record { inputs = map (reads v) (words_from p.width (all_fields p) x); word = c } in r)
+      (given ∙ ap (reads v) stand.word) in
+      subst (IsCloser p terms pos neg (chosen_terms p v)) (sym same)
+      (closer_ones_are_chosen true p terms pos neg comparison v h)
 
   -- none is closer where a log refutes the formula
-  pub refuted_has_none_closer : RefutationsAreSound → (limit : ℕ) (log : List Chain) → IsRefuted p (Precise terms pos neg) limit log →
+  pub refuted_has_none_closer : RefutationsAreSound → (limit : ℕ) (log : List Chain) →
+      IsRefuted p (Precise terms pos neg) limit log →
       NoneIsCloser (question_of p) terms (positives_of p pos) (negatives_of p neg)
   refuted_has_none_closer law limit log r =
-      unsatisfied_precision_has_none_closer true p terms pos neg comparison (law (circuit_of true p (Precise terms pos neg)).clauses log r.refutes)
+      unsatisfied_precision_has_none_closer true p terms pos neg comparison
+      (law (circuit_of true p (Precise terms pos neg)).clauses log r.refutes)

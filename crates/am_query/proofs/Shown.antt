@@ -32,6 +32,7 @@ all_at P items (i ∷ places) h = all_found P (slice_get items i) (at_places ite
     (λ x is. subst P (get_or_from_slice_get items i x x is) (h i x (slice_get_within items i x is)))
     (all_at P items places h)
 
+-- one place more has the item at it
 pub places_grow : PlacesGrow
 places_grow negatives places i e is = filter_map-append (slice_get negatives) places (i ∷ []) ∙ one
   where
@@ -97,6 +98,7 @@ module _ (p : Problem) where
     few = omega arith;
   }
 
+-- the examples after a valid trace are true, valid, and no more than its turns
 pub traces_show : TracesShow
 traces_show p trace turns =
     let shown = after_all p 0 no_examples trace (none_shown p) turns in
@@ -111,5 +113,6 @@ turns_grow : (p : Problem) (s : State) (ts : List Turn) (t : Turn) → AreTurns 
 turns_grow p s [] t turns turn = (turn, tt)
 turns_grow p s (u ∷ us) t turns turn = (turns.0, turns_grow p (after_turn s u) us t turns.1 turn)
 
+-- a valid trace goes on by a turn
 pub traces_grow : TracesGrow
 traces_grow p trace t turns turn = (turns_grow p no_examples trace t turns turn, next_turn no_examples trace t)

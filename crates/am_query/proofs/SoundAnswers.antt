@@ -22,15 +22,23 @@ use Rattle.am_query.proofs.SoundFormula.{failed_examples_are_chosen, unsatisfied
 
 module _ (p : Problem) (formed : IsFormed p) (terms : List Term) (t : IsTransformerOf p terms) where
   -- the example that the words of inputs read, of truth values that satisfy the formula
-  pub read_example : (v : ℕ → Bool) → Satisfies v (circuit_of true p (Sound terms)).clauses → (vars : ℕ) (i : SoundInputs) → AreSoundInputs p vars i →
+  pub read_example : (v : ℕ → Bool) → Satisfies v (circuit_of true p (Sound terms)).clauses →
+      (vars : ℕ) (i : SoundInputs) → AreSoundInputs p vars i →
       (e : Positive) → e.inputs ≡ map (reads v) i.fields → e.words ≡ map (reads v) i.words → IsUncovered p terms e
   read_example v h vars i are e inputs given =
       let same : e ≡ chosen_positive p v =
-      ap (λ row. let r : Positive = record { inputs = row; words = e.words } in r) (inputs ∙ ap (map (reads v)) are.fields)
-      ∙ ap (λ row. let r : Positive = record { inputs = map (reads v) (words_from p.width (all_fields p) 1); words = row } in r) (given ∙ ap (map (reads v)) are.words) in
-      subst (IsUncovered p terms) (sym same) (failed_examples_are_chosen true p formed terms (derivable_terms_fit p formed terms t) v h)
+      ap (λ row. let r : Positive = record { inputs = row; words = e.words } in r)
+      (inputs ∙ ap (map (reads v)) are.fields)
+      ∙ ap
+      (λ row.
+      let r : Positive = record { inputs = map (reads v) (words_from p.width (all_fields p) 1); words = row } in r)
+      (given ∙ ap (map (reads v)) are.words) in
+      subst (IsUncovered p terms) (sym same)
+      (failed_examples_are_chosen true p formed terms (derivable_terms_fit p formed terms t) v h)
 
   -- the terms are sound where a log refutes the formula
-  pub refuted_is_sound : RefutationsAreSound → (limit : ℕ) (log : List Chain) → IsRefuted p (Sound terms) limit log → IsSound (question_of p) terms
+  pub refuted_is_sound : RefutationsAreSound → (limit : ℕ) (log : List Chain) → IsRefuted p (Sound terms) limit log →
+      IsSound (question_of p) terms
   refuted_is_sound law limit log r =
-      unsatisfied_soundness_is_sound true p formed terms (derivable_terms_fit p formed terms t) (law (circuit_of true p (Sound terms)).clauses log r.refutes)
+      unsatisfied_soundness_is_sound true p formed terms (derivable_terms_fit p formed terms t)
+      (law (circuit_of true p (Sound terms)).clauses log r.refutes)

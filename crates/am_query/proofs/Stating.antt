@@ -36,12 +36,16 @@ module _ (p : Problem) (formed : IsFormed p) (terms : List Term) (is : IsTransfo
   abbrev pub failing_gates : ℕ
   failing_gates =
       p.inputs * valid_weight p + (p.inputs * member_weight p
-      + (assumption_weight p.width p.assume + (weight p.width p.operation + (sum_by (weight p.width) terms + member_weight p))))
+      + (assumption_weight p.width p.assume
+      + (weight p.width p.operation + (sum_by (weight p.width) terms + member_weight p))))
 
+  -- the most gates and clauses that are stated for precision after the fit
   abbrev pub comparing_gates : ℕ
   comparing_gates =
-      p.inputs * valid_weight p + (weight_of_block (encoding_of p) + (sum_by (weight p.width) terms + (member_weight p + member_weight p)))
+      p.inputs * valid_weight p
+      + (weight_of_block (encoding_of p) + (sum_by (weight p.width) terms + (member_weight p + member_weight p)))
 
+  -- what is stated for soundness builds no more than its weight, and no input
   pub Builds-failing : (q : Place) (fields words : List (List ℕ)) → 0 < q.next →
       AreWordsIn p.width (all_fields p) q.next fields → AreWordsIn p.width p.inputs q.next words →
       Builds (failing p terms fields words) failing_gates 0 Any q
@@ -56,19 +60,25 @@ module _ (p : Problem) (formed : IsFormed p) (terms : List Term) (is : IsTransfo
       (λ a q2 l2 any.
       let h2 = AreWordsIn-later w (all_fields p) q1.next q2.next fields l2 h1 in
       let e2 = AreWordsIn-later w p.inputs q1.next q2.next words l2 e1 in
-      Builds-bind _ _ 0 (Builds-assumed p formed q2 words (omega (arith, some, l1, l2)) e2 p.assume formed.assume) refl refl
+      Builds-bind _ _ 0 (Builds-assumed p formed q2 words (omega (arith, some, l1, l2)) e2 p.assume formed.assume)
+      refl refl
       (λ a q3 l3 any.
       let h3 = AreWordsIn-later w (all_fields p) q2.next q3.next fields l3 h2 in
       let e3 = AreWordsIn-later w p.inputs q2.next q3.next words l3 e2 in
       let some3 : 0 < q3.next = omega (arith, some, l1, l2, l3) in
-      Builds-bind _ _ 0 (Builds-gates (Makes-blasted w (some_bit p formed) words p.operation fit q3 some3 e3.each)) refl refl
+      Builds-bind _ _ 0 (Builds-gates (Makes-blasted w (some_bit p formed) words p.operation fit q3 some3 e3.each))
+      refl refl
       (λ value q4 l4 own.
       let h4 = AreWordsIn-later w (all_fields p) q3.next q4.next fields l4 h3 in
-      Builds-bind _ _ 0 (Builds-gates (Makes-outputs p formed terms is fields q4 (omega (arith, some3, l4)) h4)) refl refl
+      Builds-bind _ _ 0 (Builds-gates (Makes-outputs p formed terms is fields q4 (omega (arith, some3, l4)) h4))
+      refl refl
       (λ result q5 l5 tuple.
-      Builds-excluded p formed q5 result value (omega (arith, some3, l4, l5)) tuple (IsWord-later w q4.next q5.next value l5 own))))))
+      Builds-excluded p formed q5 result value (omega (arith, some3, l4, l5)) tuple
+      (IsWord-later w q4.next q5.next value l5 own))))))
 
-  pub Builds-comparing : (q : Place) (fields : List (List ℕ)) (word : List ℕ) → 1 + selectors_of (encoding_of p) ≤ q.next →
+  -- what is stated for precision after the fit builds no more than its weight, and no input
+  pub Builds-comparing : (q : Place) (fields : List (List ℕ)) (word : List ℕ) →
+      1 + selectors_of (encoding_of p) ≤ q.next →
       AreWordsIn p.width (all_fields p) q.next fields → IsWord p.width q.next word →
       Builds (comparing p terms fields word) comparing_gates 0 Any q
   unfolding comparing
@@ -80,19 +90,22 @@ module _ (p : Problem) (formed : IsFormed p) (terms : List Term) (is : IsTransfo
       Builds-bind _ _ 0 (Builds-gates (Makes-block p formed q1 (omega (arith, least, l1)) fields h1)) refl refl
       (λ closer q2 l2 close.
       let h2 = AreWordsIn-later w (all_fields p) q1.next q2.next fields l2 h1 in
-      Builds-bind _ _ 0 (Builds-gates (Makes-outputs p formed terms is fields q2 (omega (arith, least, l1, l2)) h2)) refl refl
+      Builds-bind _ _ 0 (Builds-gates (Makes-outputs p formed terms is fields q2 (omega (arith, least, l1, l2)) h2))
+      refl refl
       (λ result q3 l3 own.
       let e3 = IsWord-later w q.next q3.next word (omega (arith, l1, l2, l3)) e in
       Builds-bind _ _ 0 (Builds-admitted p formed q3 result word (omega (arith, least, l1, l2, l3)) own e3) refl refl
       (λ a q4 l4 any.
       Builds-excluded p formed q4 closer word (omega (arith, least, l1, l2, l3, l4))
-      (AreWordsIn-later w k q2.next q4.next closer (omega (arith, l3, l4)) close) (IsWord-later w q3.next q4.next word l4 e3)))))
+      (AreWordsIn-later w k q2.next q4.next closer (omega (arith, l3, l4)) close)
+      (IsWord-later w q3.next q4.next word l4 e3)))))
 
 -- ---- what calls give
 
 module _ (p : Problem) (terms : List Term) (fields : List (List ℕ)) where
   -- one call after another, for soundness
-  pub Gives-failing : {n0 n1 n2 n3 n4 n5 n6 : Net} {value : List ℕ} {result : List (List ℕ)} {Q : ℕ → List (List ℕ) → Type 0} (words : List (List ℕ)) →
+  pub Gives-failing : {n0 n1 n2 n3 n4 n5 n6 : Net} {value : List ℕ} {result : List (List ℕ)}
+      {Q : ℕ → List (List ℕ) → Type 0} (words : List (List ℕ)) →
       States (valid p fields) (p.inputs * (valid_weight p + 1)) n0 tt n1 →
       States (members p fields words) (p.inputs * (member_weight p + 1)) n1 tt n2 →
       States (assumed p words p.assume) (assumption_weight p.width p.assume + 1) n2 tt n3 →
@@ -110,10 +123,12 @@ module _ (p : Problem) (terms : List Term) (fields : List (List ℕ)) where
       (Gives-bind {k = c} {n = b} _ two
       (Gives-bind {k = d} {n = c} _ three
       (Gives-bind {k = e} {n = d} _ four
-      (Gives-bind {k = member_weight p + 1} {n = e} _ five six (omega arith)) (omega arith)) (omega arith)) (omega arith)) (omega arith)
+      (Gives-bind {k = member_weight p + 1} {n = e} _ five six (omega arith)) (omega arith)) (omega arith))
+      (omega arith)) (omega arith)
 
   -- and for precision
-  pub Gives-comparing : {n0 n1 n2 n3 n4 n5 : Net} {closer result : List (List ℕ)} {P Q : ℕ → List (List ℕ) → Type 0} (word : List ℕ) →
+  pub Gives-comparing : {n0 n1 n2 n3 n4 n5 : Net} {closer result : List (List ℕ)} {P Q : ℕ → List (List ℕ) → Type 0}
+      (word : List ℕ) →
       States (valid p fields) (p.inputs * (valid_weight p + 1)) n0 tt n1 →
       Gives (block (encoding_of p) fields) (weight_of_block (encoding_of p)) P n1 closer n2 →
       Gives (outputs p terms fields) (sum_by (weight p.width) terms) Q n2 result n3 →
@@ -128,4 +143,5 @@ module _ (p : Problem) (terms : List Term) (fields : List (List ℕ)) where
       Gives-bind {k = b} _ one
       (Gives-bind {k = c} {n = b} _ two
       (Gives-bind {k = d} {n = c} _ three
-      (Gives-bind {k = member_weight p + 1} {n = d} _ four five (omega arith)) (omega arith)) (omega arith)) (omega arith)
+      (Gives-bind {k = member_weight p + 1} {n = d} _ four five (omega arith)) (omega arith)) (omega arith))
+      (omega arith)

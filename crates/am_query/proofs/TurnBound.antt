@@ -141,6 +141,7 @@ module _ (p : Problem) where
       let rest = turns_few after ts unsound (t ∷ sound) turns.1 further in
       omega (arith, rest)
 
+-- a trace of a problem with K tuples of trees has at most K * (K + 1) turns
 pub turns_are_few : TurnsAreFew
 turns_are_few p trace turns =
     let q = question_of p in

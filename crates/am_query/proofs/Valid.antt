@@ -1,5 +1,6 @@
 -- Inputs that are abstract values, members of inputs, and the assumption.
-use Rattle.std.proofs.Common.{◌≡◌, ℕ, ◌*◌, ◌<◌, ◌≤◌, ◌↔◌, Bool, not, eqb, List, [], ◌∷◌, All, map, length, refl, sym, ◌∙◌, ap, subst, arith}
+use Rattle.std.proofs.Common.{◌≡◌, ℕ, ◌*◌, ◌<◌, ◌≤◌, ◌↔◌, Bool, not, eqb, List, [], ◌∷◌, All, map, length, refl, sym}
+use Rattle.std.proofs.Common.{◌∙◌, ap, subst, arith}
 use Rattle.std.specs.Prelude.{IsTrue}
 use Rattle.std.proofs.lemmas.List.Elements.{All-nil, All-cons, All-head, All-tail, All-map}
 use Rattle.am_gate.specs.Build.{Place, Means}
@@ -19,9 +20,11 @@ use Rattle.am_query.specs.inside.Weights.{valid_weight}
 use Rattle.am_query.specs.Formulas.{forced, test, valid}
 use Rattle.am_query.specs.inside.Statements.{Any}
 use Rattle.am_query.proofs.Builds.{Builds}
-use Rattle.am_query.proofs.Steps.{Builds-each, Builds-forced, Makes-test, Means-each, Means-forced, Means-test, Reaches-each, Reaches-forced}
+use Rattle.am_query.proofs.Steps.{Builds-each, Builds-forced, Makes-test, Means-each, Means-forced, Means-test}
+use Rattle.am_query.proofs.Steps.{Reaches-each, Reaches-forced}
 use Rattle.am_query.specs.inside.Words.{AreWordsIn}
-use Rattle.am_query.proofs.Tuples.{AreLong, AreLong-words, AreWordsIn-later, IsTuple-reads, map-same, map-split, split-long, split-words, length-pieces}
+use Rattle.am_query.proofs.Tuples.{AreLong, AreLong-words, AreWordsIn-later, IsTuple-reads, map-same, map-split}
+use Rattle.am_query.proofs.Tuples.{split-long, split-words, length-pieces}
 use Rattle.am_query.proofs.Membership.{some_bit, is_nonzero}
 
 module _ (p : Problem) (formed : IsFormed p) where
@@ -56,7 +59,8 @@ module _ (p : Problem) (formed : IsFormed p) where
   Means-one : (v : ℕ → Bool) (tuple : List (List ℕ)) → AreLong w k tuple →
       Means v (forced (test w (valid_term_of p.kind w) tuple)) (λ u. Valid (map (reads v) tuple))
   Means-one v tuple h =
-      Means-weaker (Means-forced _ (Means-test w one_bit tuple (valid_term_of p.kind w) (valid-fits tuple h.many) v h.bits))
+      Means-weaker
+      (Means-forced _ (Means-test w one_bit tuple (valid_term_of p.kind w) (valid-fits tuple h.many) v h.bits))
       (λ u t. (tells-validity (map (reads v) tuple) (IsTuple-reads v w k tuple h)).0 t)
 
   -- fields that are forced to be abstract values are
@@ -64,17 +68,22 @@ module _ (p : Problem) (formed : IsFormed p) where
       Means v (valid p fields) (λ u. AreInputs (question_of p) (split k p.inputs (map (reads v) fields)))
   Means-valid v fields h =
       Means-weaker
-      (Means-each (λ tuple. forced (test w (valid_term_of p.kind w) tuple)) (AreLong w k) v (λ tuple. Valid (map (reads v) tuple))
+      (Means-each (λ tuple. forced (test w (valid_term_of p.kind w) tuple)) (AreLong w k) v
+      (λ tuple. Valid (map (reads v) tuple))
       (Means-one v) (tuples fields) (split-long w k p.inputs fields h))
       (λ u all. (rows_are_inputs p (map (reads v) fields) (IsTuple-reads v w (all_fields p) fields h)).1
-      (subst (λ (ts : List (List ℕ)). All Valid ts) (map-split v k p.inputs fields) (All-map Valid (map (reads v)) (tuples fields) all)))
+      (subst (λ (ts : List (List ℕ)). All Valid ts) (map-split v k p.inputs fields)
+      (All-map Valid (map (reads v)) (tuples fields) all)))
 
+  -- the validity of all inputs builds no more than a test for each
   pub Builds-valid : (q : Place) (fields : List (List ℕ)) → 0 < q.next → AreWordsIn w (all_fields p) q.next fields →
       Builds (valid p fields) (p.inputs * valid_weight p) 0 Any q
   Builds-valid q fields pos h =
       subst (λ n. Builds (valid p fields) (n * valid_weight p) 0 Any q) (length-pieces k p.inputs fields)
-      (Builds-each (λ tuple. forced (test w (valid_term_of p.kind w) tuple)) (AreWordsIn w k q.next) (valid_weight p) q.next
-      (λ tuple g r l. Builds-forced (Makes-test w one_bit tuple (valid_term_of p.kind w) (valid-fits tuple g.many) r (omega (arith, pos, l))
+      (Builds-each (λ tuple. forced (test w (valid_term_of p.kind w) tuple)) (AreWordsIn w k q.next)
+      (valid_weight p) q.next
+      (λ tuple g r l. Builds-forced
+      (Makes-test w one_bit tuple (valid_term_of p.kind w) (valid-fits tuple g.many) r (omega (arith, pos, l))
       (AreWordsIn-later w k q.next r.next tuple l g).each))
       (tuples fields) (split-words w k p.inputs q.next fields h) q (omega arith))
 
@@ -89,28 +98,39 @@ module _ (p : Problem) (formed : IsFormed p) where
       let each = split-words w k p.inputs n fields h in
       let row = IsTuple-reads v w (all_fields p) fields (AreLong-words w (all_fields p) n fields h) in
       let valid : All Valid (map (map (reads v)) (tuples fields)) =
-      subst (λ (ts : List (List ℕ)). All Valid ts) (sym (map-split v k p.inputs fields)) ((rows_are_inputs p (map (reads v) fields) row).0 are) in
+      subst (λ (ts : List (List ℕ)). All Valid ts) (sym (map-split v k p.inputs fields))
+      ((rows_are_inputs p (map (reads v) fields) row).0 are) in
       all_unmapped (tuples fields) each valid
     where
-      all_unmapped : (ts : List (List (List ℕ))) → All (AreWordsIn w k n) ts → All Valid (map (map (reads v)) ts) → All (ReadsValid v n) ts
+      all_unmapped : (ts : List (List (List ℕ))) → All (AreWordsIn w k n) ts → All Valid (map (map (reads v)) ts) →
+          All (ReadsValid v n) ts
       all_unmapped [] each valid = All-nil (ReadsValid v n)
       all_unmapped (t ∷ ts) each valid =
           All-cons (ReadsValid v n) t ts
-          (record { words = All-head (AreWordsIn w k n) t ts each; valid = All-head Valid (map (reads v) t) (map (map (reads v)) ts) valid })
-          (all_unmapped ts (All-tail (AreWordsIn w k n) t ts each) (All-tail Valid (map (reads v) t) (map (map (reads v)) ts) valid))
+          (record {
+            words = All-head (AreWordsIn w k n) t ts each;
+            valid = All-head Valid (map (reads v) t) (map (map (reads v)) ts) valid;
+          })
+          (all_unmapped ts (All-tail (AreWordsIn w k n) t ts each)
+          (All-tail Valid (map (reads v) t) (map (map (reads v)) ts) valid))
 
   -- fields that read as abstract values can be forced to
-  pub Reaches-valid : (v : ℕ → Bool) (q : Place) (fields : List (List ℕ)) → 0 < q.next → IsTrue (v 0) → AreWordsIn w (all_fields p) q.next fields →
-      AreInputs (question_of p) (split k p.inputs (map (reads v) fields)) → Reaches v (valid p fields) q (λ u r a. Unit {0})
+  pub Reaches-valid : (v : ℕ → Bool) (q : Place) (fields : List (List ℕ)) → 0 < q.next → IsTrue (v 0) →
+      AreWordsIn w (all_fields p) q.next fields →
+      AreInputs (question_of p) (split k p.inputs (map (reads v) fields)) →
+      Reaches v (valid p fields) q (λ u r a. Unit {0})
   Reaches-valid v q fields pos t h are =
       Reaches-each (λ tuple. forced (test w (valid_term_of p.kind w) tuple)) (ReadsValid v q.next) q.next v
       (λ tuple g u same r l.
       let words = AreWordsIn-later w k q.next r.next tuple l g.words in
       Reaches-forced (omega (arith, pos, l)) (same 0 pos ∙ t)
-      (Makes-test w one_bit tuple (valid_term_of p.kind w) (valid-fits tuple g.words.many) r (omega (arith, pos, l)) words.each)
+      (Makes-test w one_bit tuple (valid_term_of p.kind w) (valid-fits tuple g.words.many) r (omega (arith, pos, l))
+      words.each)
       (λ z more. Means-weaker
-      (Means-test w one_bit tuple (valid_term_of p.kind w) (valid-fits tuple g.words.many) z (AreLong-words w k q.next tuple g.words).bits)
+      (Means-test w one_bit tuple (valid_term_of p.kind w) (valid-fits tuple g.words.many) z
+      (AreLong-words w k q.next tuple g.words).bits)
       (λ lit e. e
       ∙ ap is_valid (map-same z v w q.next (λ x b. more x (omega (arith, b, l)) ∙ same x b) tuple g.words.each)
-      ∙ (tells-validity (map (reads v) tuple) (IsTuple-reads v w k tuple (AreLong-words w k q.next tuple g.words))).1 g.valid)))
+      ∙ (tells-validity (map (reads v) tuple) (IsTuple-reads v w k tuple (AreLong-words w k q.next tuple g.words))).1
+      g.valid)))
       (tuples fields) (all-valid v q.next fields h are) v (λ x l. refl) q (omega arith)

@@ -1,29 +1,29 @@
--- Tests have one verdict, and verdicts on items and logs.
-use Rattle.std.proofs.Common.{◌≡◌, ℕ, zero, suc, ◌+◌, ◌⊎◌, Bool, List, [], ◌∷◌, ◌++◌, length, take, zip, refl, sym, ◌∙◌, ap}
-use Rattle.std.proofs.Common.{subst, inl, inr, arith, add-zero, zero-add}
+-- Tests have one verdict, and verdicts on items, logs and hints.
+use Rattle.std.proofs.Common.{◌≡◌, ℕ, zero, suc, ◌+◌, ◌⊎◌, Bool, List, [], ◌∷◌, ◌++◌, length, take, zip, refl, sym}
+use Rattle.std.proofs.Common.{◌∙◌, ap, subst, inl, inr, arith, add-zero, zero-add}
 use Rattle.std.proofs.lemmas.List.{same_from_push}
-use Rattle.std.specs.Prelude.{Some, Ok, Err, Result, slice_get}
+use Rattle.std.specs.Prelude.{Option, None, Some, Ok, Err, Result, slice_get}
 use Rattle.std.specs.List.{All}
 use Rattle.std.proofs.lemmas.List.Elements.{All-head, All-tail}
 use Rattle.am_chain.specs.Replay.{EndsEmpty, LogFault, replay}
 use Rattle.am_chain.specs.declared.chain.Chain.{Chain}
+use Rattle.am_gate.specs.Circuit.{Net}
+use Rattle.am_hint.specs.HintReplay.{HintsFault, clauses_of, hints_fault}
+use Rattle.am_hint.specs.declared.hint.Hint.{Hint}
 use Rattle.am_problem.specs.Problem.{Problem}
-use Rattle.am_query.specs.Acceptance.{IsLogFault, Test, acceptance, ◌before◌, condition, each_is, refuted}
+use Rattle.am_query.specs.Acceptance.{IsHintsFault, IsLogFault, Test, acceptance_by, ◌before◌, condition, each_is}
+use Rattle.am_query.specs.Acceptance.{first_log, hints_refute, refuted, second_log}
+use Rattle.am_query.specs.AcceptanceLaws.{AreDecided, HasOneVerdict, HintsAreTestedInTurn, IsDecided}
 use Rattle.am_query.specs.AcceptanceLaws.{LogsAreTestedInTurn, VerdictsAreUnique, VerdictsExist}
 use Rattle.am_query.specs.Turns.{after_trace}
 use Rattle.am_query.specs.declared.fault.Fault.{Fault}
-use Rattle.am_query.specs.declared.fault.Fault.TheVariants.{BadChain, NegativeFalse, NotEmpty, PositiveFalse}
+use Rattle.am_query.specs.declared.fault.Fault.TheVariants.{BadChain, BadHint, NegativeFalse, NotEmpty, PositiveFalse}
 use Rattle.am_query.specs.declared.fault.Fault.TheVariants.{TermOutside, Unfinished}
 use Rattle.am_query.specs.declared.outcome.Outcome.{Outcome}
 use Rattle.am_query.specs.declared.outcome.Outcome.TheVariants.{Absent, Best, Conflicts, Turns}
 use Rattle.am_query.proofs.KeptPlaces.{by_last}
 
 -- ---- one verdict at most
-
--- a test doesn't both pass and fail, and fails with one fault at most
-pub record HasOneVerdict (t : Test) : Type 0 where
-  pub apart : t.Passes → (f : Fault) → ¬ t.Fails f
-  pub one : (f g : Fault) → t.Fails f → t.Fails g → f ≡ g
 
 one_condition : (P : Type 0) (fault : Fault) → HasOneVerdict (condition P fault)
 one_condition P fault = record {
@@ -61,25 +61,44 @@ one_log j clauses log = record {
     go (Ok derived) f g x y = x.1 ∙ sym y.1
     go (Err bad) f g x y = x ∙ sym y
 
-one_verdict : (folding : Bool) (p : Problem) (o : Outcome) → HasOneVerdict (acceptance folding p o)
-one_verdict folding p (Best t trace sound_log best_log) =
+one_hints : (j vars : ℕ) (clauses : List (List ℕ)) (hints : List Hint) →
+    HasOneVerdict (hints_refute j vars clauses hints)
+one_hints j vars clauses hints = record {
+  apart = λ passes f fails. (subst (λ (r : Option HintsFault). IsHintsFault j hints r f) passes.0 fails).0 passes.1;
+  one = λ f g. go (hints_fault vars clauses 0 hints) f g;
+}
+  where
+    go : (r : Option HintsFault) (f g : Fault) → IsHintsFault j hints r f → IsHintsFault j hints r g → f ≡ g
+    go None f g x y = x.1 ∙ sym y.1
+    go (Some bad) f g x y = x ∙ sym y
+
+-- an outcome has one verdict by tests that have one
+one_by : (folding : Bool) (p : Problem) (o : Outcome) (first second : Net → Test) →
+    ((c : Net) → HasOneVerdict (first c)) → ((c : Net) → HasOneVerdict (second c)) →
+    HasOneVerdict (acceptance_by folding p o first second)
+one_by folding p (Best t trace sound_log best_log) first second one two =
     one_before _ _
     (one_before _ _ (one_each _ TermOutside 0 (zip p.starts t)) (one_condition (length t ≡ length p.starts) _))
     (one_before _ _ (one_each _ PositiveFalse 0 (after_trace trace).positives)
     (one_before _ _ (one_each _ NegativeFalse 0 (after_trace trace).negatives)
-    (one_before _ _ (one_log 0 _ sound_log) (one_log 1 _ best_log))))
-one_verdict folding p (Absent trace log) =
-    one_before _ _ (one_each _ PositiveFalse 0 (after_trace trace).positives) (one_log 0 _ log)
-one_verdict folding p (Turns trace) = one_condition ⊥ Unfinished
-one_verdict folding p (Conflicts trace asked log) = one_condition ⊥ Unfinished
+    (one_before _ _ (one _) (two _))))
+one_by folding p (Absent trace log) first second one two =
+    one_before _ _ (one_each _ PositiveFalse 0 (after_trace trace).positives) (one _)
+one_by folding p (Turns trace) first second one two = one_condition ⊥ Unfinished
+one_by folding p (Conflicts trace asked log) first second one two = one_condition ⊥ Unfinished
 
+-- an outcome isn't both accepted and at fault, and has one fault at most
 pub verdicts_are_unique : VerdictsAreUnique
-verdicts_are_unique folding p o = ((one_verdict folding p o).apart, (one_verdict folding p o).one)
+verdicts_are_unique folding p o = (
+  one_by folding p o
+      (λ c. refuted 0 c.clauses (first_log o)) (λ c. refuted 1 c.clauses (second_log o))
+      (λ c. one_log 0 c.clauses (first_log o)) (λ c. one_log 1 c.clauses (second_log o)),
+  (λ first second. one_by folding p o
+      (λ c. hints_refute 0 c.vars c.clauses first) (λ c. hints_refute 1 c.vars c.clauses second)
+      (λ c. one_hints 0 c.vars c.clauses first) (λ c. one_hints 1 c.vars c.clauses second)),
+)
 
 -- ---- one verdict at least
-
-abbrev IsDecided : Test → Type 0
-IsDecided t = t.Passes ⊎ ((f : Fault) × t.Fails f)
 
 decided_condition : (P : Type 0) (fault : Fault) → P ⊎ (¬ P) → IsDecided (condition P fault)
 decided_condition P fault h = elim h [ inl is ↦ inl is | inr is_not ↦ inr (fault, (is_not, refl)) ]
@@ -131,6 +150,22 @@ decided_log j clauses log = go (replay clauses [] log) refl
     go (Err bad) e = let fault = BadChain j bad.chain bad.fault.step bad.fault.why in
         inr (fault, at_log j clauses log (Err bad) fault e refl)
 
+at_hints : (j vars : ℕ) (clauses : List (List ℕ)) (hints : List Hint) (r : Option HintsFault) (f : Fault) →
+    hints_fault vars clauses 0 hints ≡ r → IsHintsFault j hints r f → (hints_refute j vars clauses hints).Fails f
+at_hints j vars clauses hints r f e is = subst (λ (s : Option HintsFault). IsHintsFault j hints s f) (sym e) is
+
+decided_hints : (j vars : ℕ) (clauses : List (List ℕ)) (hints : List Hint) →
+    IsDecided (hints_refute j vars clauses hints)
+decided_hints j vars clauses hints = go (hints_fault vars clauses 0 hints) refl
+  where
+    go : (r : Option HintsFault) → hints_fault vars clauses 0 hints ≡ r → IsDecided (hints_refute j vars clauses hints)
+    go None e = elim (decided_end (clauses_of hints)) [
+      | inl ends ↦ inl (e, ends)
+      | inr full ↦ inr (NotEmpty j, at_hints j vars clauses hints None (NotEmpty j) e (full, refl))
+    ]
+    go (Some bad) e = let fault = BadHint j bad.hint bad.fault.place bad.fault.why in
+        inr (fault, at_hints j vars clauses hints (Some bad) fault e refl)
+
 -- numbers are the same or not
 same_or_not : (m n : ℕ) → (m ≡ n) ⊎ (¬ (m ≡ n))
 same_or_not zero zero = inl refl
@@ -141,21 +176,37 @@ same_or_not (suc m) (suc n) = elim (same_or_not m n) [
   | inr other ↦ inr (λ e. other (omega (arith, e)))
 ]
 
-pub verdicts_exist : VerdictsExist
-verdicts_exist folding p decide (Best t trace sound_log best_log) =
+-- an outcome is decided by tests that are
+decided_by : (folding : Bool) (p : Problem) → AreDecided p → (o : Outcome) (first second : Net → Test) →
+    ((c : Net) → IsDecided (first c)) → ((c : Net) → IsDecided (second c)) →
+    IsDecided (acceptance_by folding p o first second)
+decided_by folding p decide (Best t trace sound_log best_log) first second one two =
     decided_before _ _
     (decided_before _ _ (decided_each _ TermOutside 0 (zip p.starts t) (λ pair. decide.given pair.0 pair.1))
     (decided_condition (length t ≡ length p.starts) _ (same_or_not (length t) (length p.starts))))
     (decided_before _ _ (decided_each _ PositiveFalse 0 (after_trace trace).positives decide.true)
     (decided_before _ _ (decided_each _ NegativeFalse 0 (after_trace trace).negatives (decide.excluded t))
-    (decided_before _ _ (decided_log 0 _ sound_log) (decided_log 1 _ best_log))))
-verdicts_exist folding p decide (Absent trace log) =
-    decided_before _ _ (decided_each _ PositiveFalse 0 (after_trace trace).positives decide.true) (decided_log 0 _ log)
-verdicts_exist folding p decide (Turns trace) = inr (Unfinished, ((λ none. none), refl))
-verdicts_exist folding p decide (Conflicts trace asked log) = inr (Unfinished, ((λ none. none), refl))
+    (decided_before _ _ (one _) (two _))))
+decided_by folding p decide (Absent trace log) first second one two =
+    decided_before _ _ (decided_each _ PositiveFalse 0 (after_trace trace).positives decide.true) (one _)
+decided_by folding p decide (Turns trace) first second one two = inr (Unfinished, ((λ none. none), refl))
+decided_by folding p decide (Conflicts trace asked log) first second one two =
+    inr (Unfinished, ((λ none. none), refl))
 
--- ---- items and logs in turn
+-- where the conditions are decided, an outcome is accepted or has a fault
+pub verdicts_exist : VerdictsExist
+verdicts_exist folding p decide o = (
+  decided_by folding p decide o
+      (λ c. refuted 0 c.clauses (first_log o)) (λ c. refuted 1 c.clauses (second_log o))
+      (λ c. decided_log 0 c.clauses (first_log o)) (λ c. decided_log 1 c.clauses (second_log o)),
+  (λ first second. decided_by folding p decide o
+      (λ c. hints_refute 0 c.vars c.clauses first) (λ c. hints_refute 1 c.vars c.clauses second)
+      (λ c. decided_hints 0 c.vars c.clauses first) (λ c. decided_hints 1 c.vars c.clauses second)),
+)
 
+-- ---- items, logs and hints in turn
+
+-- a condition that holds of all items passes
 pub each_passes : {A : Type 0} (Good : A → Type 0) (fault : ℕ → Fault) (i : ℕ) (items : List A) → All Good items →
     (each_is Good fault i items).Passes
 each_passes Good fault i [] good = tt
@@ -187,8 +238,16 @@ items_are_tested_in_turn A Good fault items = (
       subst (λ (n : ℕ). (each_is Good fault 0 items).Fails (fault n)) (zero-add i) fails,
 )
 
+-- a refutation fails with its first fault, or else where it doesn't end with the empty clause
 pub logs_are_tested_in_turn : LogsAreTestedInTurn
 logs_are_tested_in_turn j clauses derived log = (
   (λ bad e. at_log j clauses log (Err bad) (BadChain j bad.chain bad.fault.step bad.fault.why) e refl),
   (λ e full. at_log j clauses log (Ok derived) (NotEmpty j) e (full, refl)),
+)
+
+-- hints tested one after another give the verdict on the whole list
+pub hints_are_tested_in_turn : HintsAreTestedInTurn
+hints_are_tested_in_turn j vars clauses hints = (
+  (λ bad e. at_hints j vars clauses hints (Some bad) (BadHint j bad.hint bad.fault.place bad.fault.why) e refl),
+  (λ e full. at_hints j vars clauses hints None (NotEmpty j) e (full, refl)),
 )

@@ -1,5 +1,6 @@
 -- The terms of a derivable transformer weigh together no more than a block: a tree's nodes stand at different slots.
-use Rattle.std.proofs.Common.{◌≡◌, ℕ, zero, suc, ◌+◌, ◌≤◌, ◌<◌, eqb, Bool, true, false, cond, List, [], ◌∷◌, ◌++◌, map, length, sum_by, Some, None, refl, ap, subst, arith, append-nil}
+use Rattle.std.proofs.Common.{◌≡◌, ℕ, zero, suc, ◌+◌, ◌≤◌, ◌<◌, eqb, Bool, true, false, cond, List, [], ◌∷◌, ◌++◌, map}
+use Rattle.std.proofs.Common.{length, sum_by, Some, None, refl, ap, subst, arith, append-nil}
 use Rattle.std.specs.Prelude.{Option}
 use Rattle.std.specs.List.{AllByRecursion, AllZip, list_any}
 use Rattle.std.proofs.lemmas.Bool.{eqb-true}
@@ -15,7 +16,8 @@ use Rattle.am_tree.specs.declared.grammar.Production.TheVariants.{Leaf, Node}
 use Rattle.am_tree.specs.declared.slots.Argument.{Argument}
 use Rattle.am_tree.specs.declared.tree.Tree.{Tree}
 use Rattle.am_tree.specs.Slots.{Numbered, arguments, is_offered, next_level, offered, positioned, same, shared}
-use Rattle.am_tree.specs.Trees.{AreDerived, Derives, Rules, children_of, production_at, production_of, term_by, term_of, terms_at}
+use Rattle.am_tree.specs.Trees.{AreDerived, Derives, Rules, children_of, production_at, production_of, term_by, term_of}
+use Rattle.am_tree.specs.Trees.{terms_at}
 use Rattle.am_tree.specs.Weights.{block_weight, production_weight, slot_weight}
 use Rattle.am_tree.proofs.Laws.{IsOffered, Stands, are_offered, offered_has, same-true, term-by}
 
@@ -44,7 +46,8 @@ module _ (f : Argument → ℕ) where
       other true e rest = rw e refl
       other false e rest = rw e (rest (rw e at h))
 
-      go : (c : Bool) → same a k ≡ c → (Stands ks b → Stands (without a ks) b) → Stands (cond {A = List Argument} c ks (k ∷ without a ks)) b
+      go : (c : Bool) → same a k ≡ c → (Stands ks b → Stands (without a ks) b) →
+          Stands (cond {A = List Argument} c ks (k ∷ without a ks)) b
       go true e rest = let apart : same b k ≡ false = subst (λ x. same b x ≡ false) (same-true a k e) n in rw apart at h
       go false e rest = other (same b k) refl rest
 
@@ -53,15 +56,18 @@ module _ (f : Argument → ℕ) where
       AllByRecursion (Stands ks) (positioned i names) → AllByRecursion (Stands (without a ks)) (positioned i names)
   stand-without a i [] ks l h = tt
   stand-without a i (n ∷ names) ks l h =
-      let b : Argument = record { position = i; symbol = n } in
-      (stands-without a b ks (apart (eqb i a.position) refl) h.0, stand-without a (i + 1) names ks (omega (arith, l)) h.1)
+      let b : Argument = record { position = i; symbol = n } in (
+        stands-without a b ks (apart (eqb i a.position) refl) h.0,
+        stand-without a (i + 1) names ks (omega (arith, l)) h.1,
+      )
     where
       apart : (c : Bool) → eqb i a.position ≡ c → same (record { position = i; symbol = n }) a ≡ false
       apart true e = let here : i ≡ a.position = eqb-true i a.position e in absurd (omega (arith, here, l))
       apart false e = rw e refl
 
   -- a sum over arguments one after another is no more than that over a list where they stand
-  sum-positioned : (i : ℕ) (names : List ℕ) (ks : List Argument) → AllByRecursion (Stands ks) (positioned i names) → sum_by f (positioned i names) ≤ sum_by f ks
+  sum-positioned : (i : ℕ) (names : List ℕ) (ks : List Argument) → AllByRecursion (Stands ks) (positioned i names) →
+      sum_by f (positioned i names) ≤ sum_by f ks
   sum-positioned i [] ks h = omega arith
   sum-positioned i (n ∷ names) ks h =
       let a : Argument = record { position = i; symbol = n } in
@@ -71,7 +77,8 @@ module _ (f : Argument → ℕ) where
 -- ---- blocks
 
 module _ (rules : Rules) (w : ℕ) where
-  block-append : (below : ℕ) (ns ms : List ℕ) → block_weight rules w below (ns ++ ms) ≡ block_weight rules w below ns + block_weight rules w below ms
+  block-append : (below : ℕ) (ns ms : List ℕ) →
+      block_weight rules w below (ns ++ ms) ≡ block_weight rules w below ns + block_weight rules w below ms
   unfolding block_weight
   block-append zero ns ms = sum_by-append (λ n. slot_weight w (offered rules zero n)) ns ms
   block-append (suc below) ns ms =
@@ -92,7 +99,8 @@ module _ (rules : Rules) (w : ℕ) where
   block-none zero = refl
   block-none (suc below) = omega (arith, block-none below)
 
-  block-symbols : (below : ℕ) (ks : List Argument) → block_weight rules w below (map (λ a. a.symbol) ks) ≡ sum_by (λ a. alone below a.symbol) ks
+  block-symbols : (below : ℕ) (ks : List Argument) →
+      block_weight rules w below (map (λ a. a.symbol) ks) ≡ sum_by (λ a. alone below a.symbol) ks
   block-symbols below [] = block-none below
   block-symbols below (k ∷ ks) =
       omega (
@@ -108,7 +116,8 @@ module _ (rules : Rules) (w : ℕ) where
   alone-slot (suc below) n = omega (arith, sum_by-cons (λ (m : ℕ). slot_weight w (offered rules (suc below) m)) n [])
 
   alone-above : (below n : ℕ) →
-      alone (suc below) n ≡ slot_weight w (offered rules (suc below) n) + sum_by (λ a. alone below a.symbol) (shared rules (suc below) n)
+      alone (suc below) n
+      ≡ slot_weight w (offered rules (suc below) n) + sum_by (λ a. alone below a.symbol) (shared rules (suc below) n)
   unfolding block_weight
   alone-above below n =
       let symbols = map (λ (a : Argument). a.symbol) (shared rules (suc below) n) in
@@ -126,8 +135,10 @@ module _ (rules : Rules) (w : ℕ) where
     light : production_weight w q ≤ slot_weight w (offered rules below n)
     inside : AllByRecursion (Stands (shared rules below n)) (arguments q)
 
-  in_list : (below n k : ℕ) (q : Production) → production_at rules n k ≡ Some q → (ps : List Numbered) → AllByRecursion (IsOffered rules below n) ps →
-      list_any (λ p. eqb k p.number) ps ≡ true → (production_weight w q ≤ slot_weight w ps) × AllByRecursion (Stands (shared rules below n)) (arguments q)
+  in_list : (below n k : ℕ) (q : Production) → production_at rules n k ≡ Some q → (ps : List Numbered) →
+      AllByRecursion (IsOffered rules below n) ps →
+      list_any (λ p. eqb k p.number) ps ≡ true →
+      (production_weight w q ≤ slot_weight w ps) × AllByRecursion (Stands (shared rules below n)) (arguments q)
   in_list below n k q e [] h has = cc
   in_list below n k q e (p ∷ ps) h has = go (eqb k p.number) refl (in_list below n k q e ps h.1)
     where
@@ -135,18 +146,24 @@ module _ (rules : Rules) (w : ℕ) where
       sum = sum_by-cons (λ (r : Numbered). production_weight w r.production + w) p ps
 
       go : (b : Bool) → eqb k p.number ≡ b →
-          (list_any (λ r. eqb k r.number) ps ≡ true → (production_weight w q ≤ slot_weight w ps) × AllByRecursion (Stands (shared rules below n)) (arguments q)) →
-          (production_weight w q ≤ slot_weight w (p ∷ ps)) × AllByRecursion (Stands (shared rules below n)) (arguments q)
+          (list_any (λ r. eqb k r.number) ps ≡ true →
+          (production_weight w q ≤ slot_weight w ps) × AllByRecursion (Stands (shared rules below n)) (arguments q)) →
+          (production_weight w q ≤ slot_weight w (p ∷ ps))
+          × AllByRecursion (Stands (shared rules below n)) (arguments q)
       go true s rest =
           let here : k ≡ p.number = eqb-true k p.number s in
           let there : production_at rules n k ≡ Some p.production = rw here h.0.at in
-          let is : p.production ≡ q = cc (e, there) in
-          (omega (arith, sum, ap (production_weight w) is), subst (λ r. AllByRecursion (Stands (shared rules below n)) (arguments r)) is h.0.inside)
+          let is : p.production ≡ q = cc (e, there) in (
+            omega (arith, sum, ap (production_weight w) is),
+            subst (λ r. AllByRecursion (Stands (shared rules below n)) (arguments r)) is h.0.inside,
+          )
       go false s rest = let r = rest (rw s at has) in (omega (arith, sum, r.0), r.1)
 
-  is_in : (below n k : ℕ) (q : Production) → production_at rules n k ≡ Some q → is_offered below q ≡ true → IsIn below n k q
+  is_in : (below n k : ℕ) (q : Production) → production_at rules n k ≡ Some q → is_offered below q ≡ true →
+      IsIn below n k q
   is_in below n k q e o =
-      let r = in_list below n k q e (offered rules below n) (are_offered rules n below) (offered_has rules below n k q e o) in
+      let r =
+      in_list below n k q e (offered rules below n) (are_offered rules n below) (offered_has rules below n k q e o) in
       record { light = r.0; inside = r.1 }
 
   -- ---- trees
@@ -156,10 +173,13 @@ module _ (rules : Rules) (w : ℕ) where
 
   -- each operator has arguments
   abbrev HaveArguments : Type 0
-  HaveArguments = (n k : ℕ) (op : Op) (names : List ℕ) → production_at rules n k ≡ Some (Node op names) → 0 < length names
+  HaveArguments =
+      (n k : ℕ) (op : Op) (names : List ℕ) → production_at rules n k ≡ Some (Node op names) → 0 < length names
 
-  by-production : (below n k : ℕ) (ts : List Tree) (o : Option Production) → production_at rules n k ≡ o → AreDerived (Derives rules below) o ts →
-      ((op : Op) (names : List ℕ) → production_at rules n k ≡ Some (Node op names) → AllZip (Derives rules below) names ts →
+  by-production : (below n k : ℕ) (ts : List Tree) (o : Option Production) → production_at rules n k ≡ o →
+      AreDerived (Derives rules below) o ts →
+      ((op : Op) (names : List ℕ) → production_at rules n k ≡ Some (Node op names) →
+      AllZip (Derives rules below) names ts →
       weight w (term_by (Some (Node op names)) (givers ts)) ≤ alone below n) →
       weight w (term_by o (givers ts)) ≤ alone below n
   by-production below n k ts None e h node = absurd h
@@ -178,7 +198,8 @@ module _ (rules : Rules) (w : ℕ) where
   Weighs : ℕ → Type 0
   Weighs below = (n : ℕ) (t : Tree) → Derives rules (suc below) n t → weight w (term_of rules n t) ≤ alone below n
 
-  children-weigh : (below i : ℕ) → Weighs below → (names : List ℕ) (ts : List Tree) → AllZip (Derives rules (suc below)) names ts →
+  children-weigh : (below i : ℕ) → Weighs below → (names : List ℕ) (ts : List Tree) →
+      AllZip (Derives rules (suc below)) names ts →
       sum_by (weight w) (terms_at names (givers ts)) ≤ sum_by (λ a. alone below a.symbol) (positioned i names)
   unfolding Weighs
   children-weigh below i each [] ts h = omega arith
@@ -187,13 +208,16 @@ module _ (rules : Rules) (w : ℕ) where
       omega (
         arith,
         sum_by-cons (weight w) (term_of rules n t) (terms_at names (givers ts)),
-        sum_by-cons (λ (a : Argument). alone below a.symbol) (record { position = i; symbol = n }) (positioned (i + 1) names),
+        sum_by-cons (λ (a : Argument). alone below a.symbol) (record { position = i; symbol = n })
+            (positioned (i + 1) names),
         each n t h.0,
         children-weigh below (i + 1) each names ts h.1,
       )
 
-  node-weighs : (below n k : ℕ) → Weighs below → (ts : List Tree) (op : Op) (names : List ℕ) → production_at rules n k ≡ Some (Node op names) →
-      AllZip (Derives rules (suc below)) names ts → weight w (term_by (Some (Node op names)) (givers ts)) ≤ alone (suc below) n
+  node-weighs : (below n k : ℕ) → Weighs below → (ts : List Tree) (op : Op) (names : List ℕ) →
+      production_at rules n k ≡ Some (Node op names) →
+      AllZip (Derives rules (suc below)) names ts →
+      weight w (term_by (Some (Node op names)) (givers ts)) ≤ alone (suc below) n
   node-weighs below n k each ts op names e h =
       let is = is_in (suc below) n k (Node op names) e refl in
       let light : weight_of w op ≤ slot_weight w (offered rules (suc below) n) = is.light in

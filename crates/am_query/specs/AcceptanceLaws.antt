@@ -1,20 +1,23 @@
 -- Laws of acceptance: each outcome has one verdict, and what is accepted is right.
-use Rattle.std.specs.Prelude.{ℕ, ◌≡◌, ◌⊎◌, Bool, List, [], Err}
+use Rattle.std.specs.Prelude.{ℕ, ◌≡◌, ◌⊎◌, Bool, List, [], Err, Some}
 use Rattle.am_bv.specs.declared.term.Term.{Term}
 use Rattle.am_chain.specs.declared.chain.Chain.{Chain}
 use Rattle.am_chain.specs.Replay.{Derives, EndsEmpty, LogFault, Refutes, replay}
 use Rattle.am_domain.specs.Question.{IsAbsent, IsBest}
 use Rattle.am_domain.specs.Examples.{IsTrueExample}
+use Rattle.am_hint.specs.HintReplay.{AllPass, HintsFault, clauses_of, hints_fault}
+use Rattle.am_hint.specs.declared.hint.Hint.{Hint}
 use Rattle.am_problem.specs.Examples.{positive_of}
 use Rattle.am_problem.specs.Limits.{IsFormed}
 use Rattle.am_problem.specs.Problem.{Problem, question_of}
 use Rattle.am_problem.specs.declared.examples.Negative.{Negative}
 use Rattle.am_problem.specs.declared.examples.Positive.{Positive}
-use Rattle.am_query.specs.Acceptance.{IsAccepted, IsExcluded, IsFault, IsGiven, refuted}
+use Rattle.am_query.specs.Acceptance.{IsAccepted, IsAcceptedWith, IsExcluded, IsGiven, Test, acceptance}
+use Rattle.am_query.specs.Acceptance.{hinted_acceptance, hints_refute, refuted}
 use Rattle.am_query.specs.Formulas.{circuit_of}
 use Rattle.am_query.specs.Turns.{AreRows, IsCandidate, IsTrace, after_trace}
 use Rattle.am_query.specs.declared.fault.Fault.{Fault}
-use Rattle.am_query.specs.declared.fault.Fault.TheVariants.{BadChain, NotEmpty}
+use Rattle.am_query.specs.declared.fault.Fault.TheVariants.{BadChain, BadHint, NotEmpty}
 use Rattle.am_query.specs.declared.outcome.Outcome.{Outcome}
 use Rattle.am_query.specs.declared.outcome.Outcome.TheVariants.{Absent, Best, Conflicts, Turns}
 use Rattle.am_query.specs.declared.query.Query.TheVariants.{Fit, Precise, Sound}
@@ -22,11 +25,16 @@ use Rattle.am_query.specs.declared.turn.Turn.{Turn}
 
 -- ---- verdicts
 
--- an outcome isn't both accepted and at fault, and has one fault at most
+-- a test doesn't both pass and fail, and fails with one fault at most
+pub record HasOneVerdict (t : Test) : Type 0 where
+  pub apart : t.Passes → (f : Fault) → ¬ t.Fails f
+  pub one : (f g : Fault) → t.Fails f → t.Fails g → f ≡ g
+
+-- so it is with an outcome, by its logs or by hints
 abbrev pub VerdictsAreUnique : Type 0
 VerdictsAreUnique = (folding : Bool) (p : Problem) (o : Outcome) →
-    (IsAccepted folding p o → (f : Fault) → ¬ IsFault folding p o f)
-    × ((f g : Fault) → IsFault folding p o f → IsFault folding p o g → f ≡ g)
+    HasOneVerdict (acceptance folding p o)
+    × ((first second : List Hint) → HasOneVerdict (hinted_acceptance folding p o first second))
 
 -- of each condition on terms and examples, whether it holds
 pub record AreDecided (p : Problem) : Type 0 where
@@ -34,10 +42,15 @@ pub record AreDecided (p : Problem) : Type 0 where
   pub true : (e : Positive) → let is = IsTrueExample (question_of p) (positive_of p e) in is ⊎ (¬ is)
   pub excluded : (t : List Term) (e : Negative) → IsExcluded p t e ⊎ (¬ IsExcluded p t e)
 
--- where the conditions are decided, an outcome is accepted or has a fault
+-- a test passes, or it fails with a fault
+abbrev pub IsDecided : Test → Type 0
+IsDecided t = t.Passes ⊎ ((f : Fault) × t.Fails f)
+
+-- where the conditions are decided, an outcome is accepted or has a fault, by its logs or by hints
 abbrev pub VerdictsExist : Type 0
 VerdictsExist = (folding : Bool) (p : Problem) → AreDecided p → (o : Outcome) →
-    IsAccepted folding p o ⊎ ((f : Fault) × IsFault folding p o f)
+    IsDecided (acceptance folding p o)
+    × ((first second : List Hint) → IsDecided (hinted_acceptance folding p o first second))
 
 -- a refutation fails with its first fault, and, where it has none, where it doesn't end with the empty clause
 abbrev pub LogsAreTestedInTurn : Type 0
@@ -45,6 +58,14 @@ LogsAreTestedInTurn = (j : ℕ) (clauses derived : List (List ℕ)) (log : List 
     ((bad : LogFault) → replay clauses [] log ≡ Err bad →
     (refuted j clauses log).Fails (BadChain j bad.chain bad.fault.step bad.fault.why))
     × (Derives clauses log derived → ¬ EndsEmpty derived → (refuted j clauses log).Fails (NotEmpty j))
+
+-- so do hints
+abbrev pub HintsAreTestedInTurn : Type 0
+HintsAreTestedInTurn = (j vars : ℕ) (clauses : List (List ℕ)) (hints : List Hint) →
+    ((bad : HintsFault) → hints_fault vars clauses 0 hints ≡ Some bad →
+    (hints_refute j vars clauses hints).Fails (BadHint j bad.hint bad.fault.place bad.fault.why))
+    × (AllPass vars clauses hints → ¬ EndsEmpty (clauses_of hints) →
+    (hints_refute j vars clauses hints).Fails (NotEmpty j))
 
 -- ---- what is accepted is right
 
@@ -66,6 +87,11 @@ IsRight p (Conflicts trace asked log) = ⊥
 abbrev pub AcceptedIsRight : Type 0
 AcceptedIsRight = (folding : Bool) (p : Problem) → IsFormed p → (o : Outcome) → FitsInto p o →
     IsAccepted folding p o → IsRight p o
+
+-- so is what it says where it is accepted with hints
+abbrev pub AcceptedWithHintsIsRight : Type 0
+AcceptedWithHintsIsRight = (folding : Bool) (p : Problem) → IsFormed p → (o : Outcome) → FitsInto p o →
+    (first second : List Hint) → IsAcceptedWith folding p o first second → IsRight p o
 
 -- ---- what a synthesis shows is accepted
 

@@ -61,6 +61,7 @@ input_words w count = in_turn (replicate count (input_word w))
 abbrev pub encoding_of : Problem → Encoding
 encoding_of p = record { rules = p.rules; starts = p.starts; depth = p.depth; width = p.width }
 
+-- words as rows of constant literals
 abbrev pub constants : Problem → List ℕ → List (List ℕ)
 constants p words = map (constant p.width) words
 
@@ -136,6 +137,7 @@ precise p terms positives negatives = do
   u ← forced (member_test p result word)
   refused (member_test p closer word)
 
+-- what a query states
 abbrev pub stated : Problem → Query → Step (Unit {0})
 stated p (Fit positives negatives) = fit p positives negatives
 stated p (Sound t) = sound p t

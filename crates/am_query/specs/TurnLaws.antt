@@ -62,6 +62,7 @@ pub record AreShown (p : Problem) (turns : ℕ) (s : State) : Type 0 where
   pub valid : All (λ e. IsValidExample (question_of p) (negative_of p e)) s.negatives
   pub few : length s.positives + length s.negatives ≤ turns
 
+-- after a valid trace the examples are true, valid, and no more than its turns
 abbrev pub TracesShow : Type 0
 TracesShow = (p : Problem) (trace : List Turn) → IsTrace p trace → AreShown p (length trace) (after_trace trace)
 

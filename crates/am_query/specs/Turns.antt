@@ -39,6 +39,7 @@ AreKept p positives negatives places = AreKeptBefore p positives negatives (leng
 
 -- ---- turns
 
+-- before the first turn
 abbrev pub no_examples : State
 no_examples = record { positives = []; negatives = [] }
 
@@ -66,6 +67,7 @@ after_turn s (PositiveTurn t e kept) =
     record { positives = s.positives ++ e ∷ []; negatives = at_places s.negatives kept }
 after_turn s (NegativeTurn t e) = record { positives = s.positives; negatives = s.negatives ++ e ∷ [] }
 
+-- the examples after further turns
 abbrev pub after_turns : State → List Turn → State
 after_turns s [] = s
 after_turns s (t ∷ ts) = after_turns (after_turn s t) ts

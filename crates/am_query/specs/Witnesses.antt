@@ -39,7 +39,7 @@ chosen_positive p v = record {
 abbrev pub chosen_terms : Problem → (ℕ → Bool) → List Term
 chosen_terms p v = terms_of (encoding_of p) (decoded (encoding_of p) v)
 
--- behind the fit, from variable x on, its inputs are the fields of all inputs, and then a word
+-- after the fit, from variable x on, its inputs are the fields of all inputs, and then a word
 abbrev pub chosen_negative : Problem → ℕ → (ℕ → Bool) → Negative
 chosen_negative p x v = record {
   inputs = map (reads v) (words_from p.width (all_fields p) x);

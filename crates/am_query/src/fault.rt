@@ -1,6 +1,7 @@
 //! Why an outcome isn't accepted.
 
 use am_chain::Why;
+use am_hint::HintWhy;
 
 /// Why an outcome isn't accepted. Numbers count from 0.
 #[derive(Clone, Copy, PartialEq, Eq, Debug)]
@@ -19,6 +20,13 @@ pub enum Fault {
         chain: u32,
         step: u32,
         why: Why,
+    },
+    /// A hint of a refutation doesn't pass: the hint with the number `clause`, at the place `hint` of its test.
+    BadHint {
+        refutation: u32,
+        clause: u32,
+        hint: u32,
+        why: HintWhy,
     },
     /// The last clause of this refutation isn't there or isn't empty.
     NotEmpty(u32),

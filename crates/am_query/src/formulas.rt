@@ -24,6 +24,7 @@ pub fn formula_of(alloc: Global, p: &Problem, q: &Query) -> Result<Formula, Allo
     ensures clauses { IfOk result (λ f. f.clauses ≡ (circuit_of true p.now q.now).clauses) }
     ensures vars { IfOk result (λ f. f.vars ≡ (circuit_of true p.now q.now).vars) }
     ensures few { IfOk result (λ f. length f.clauses < 2 ^ 31) }
+    ensures few_vars { IfOk result (λ f. f.vars < 2 ^ 30) }
     ensures gates { IfOk result (λ f. f.vars ≤ 1 + input_count p.now q.now + load_of p.now) }
 {
     p.keeps_limits();
@@ -40,6 +41,7 @@ pub fn formula_one_of(alloc: Global, p: &Problem, q: &Query) -> Result<Formula, 
     ensures clauses { IfOk result (λ f. f.clauses ≡ (circuit_of false p.now q.now).clauses) }
     ensures vars { IfOk result (λ f. f.vars ≡ (circuit_of false p.now q.now).vars) }
     ensures few { IfOk result (λ f. length f.clauses < 2 ^ 31) }
+    ensures few_vars { IfOk result (λ f. f.vars < 2 ^ 30) }
     ensures gates { IfOk result (λ f. f.vars ≤ 1 + input_count p.now q.now + load_of p.now) }
 {
     p.keeps_limits();

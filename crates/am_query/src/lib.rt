@@ -35,11 +35,12 @@
 //! list of turns, and an example that doesn't exist is left out. Laws in `specs/TurnLaws.antt`: the kept
 //! examples are determined, and grow one by one; the examples after a valid trace are true and valid, and no
 //! more than the turns; and **a valid trace has at most K * (K + 1) turns**, where K is the number of the
-//! grammar's tuples of trees. Acceptance is defined in `specs/Acceptance.antt`, as conditions in order. By
-//! `specs/AcceptanceLaws.antt` no outcome is both accepted and at fault, and each has one fault at most. **What an
-//! accepted outcome says is right**: its transformer is best, or no transformer is sound. Beside acceptance this
-//! needs examples with rows of the problem; nothing is assumed of the turns, of the named transformers, or of the
-//! solver. These laws are the clauses of the functions of [`theorems`].
+//! grammar's tuples of trees. Acceptance is defined in `specs/Acceptance.antt`, as conditions in order: the last are
+//! that the outcome's logs refute its formulas, or that hints in their place do. By `specs/AcceptanceLaws.antt` no
+//! outcome is both accepted and at fault, and each has one fault at most. **What an accepted outcome says is right**,
+//! by its logs or by hints: its transformer is best, or no transformer is sound. Beside acceptance this needs examples
+//! with rows of the problem; nothing is assumed of the turns, of the named transformers, or of the solver. These laws
+//! are the clauses of the functions of [`theorems`].
 #![tactic(auto)]
 
 mod answers;

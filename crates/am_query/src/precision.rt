@@ -67,7 +67,7 @@ pub fn precise(
     }
 }
 
-/// The words of the inputs of a formula of precision, behind the fit.
+/// The words of the inputs of a formula of precision, after the fit.
 #[derive(Drop)]
 pub struct PreciseInputs {
     /// The fields of all inputs.
@@ -115,8 +115,8 @@ fn negative_at(p: &Problem, a: &Assignment, inputs: &PreciseInputs) -> Negative
 }
 
 impl Statements<'_> {
-    /// States behind a fit that at some inputs the chosen transformer excludes a word that the given one
-    /// admits, and puts the variables of the circuit's inputs behind those of the fit.
+    /// States after a fit that at some inputs the chosen transformer excludes a word that the given one
+    /// admits, and puts the variables of the circuit's inputs after those of the fit.
     fn closer(
         &self,
         circuit: &mut Circuit,

@@ -1,8 +1,9 @@
 //! Laws of the queries' formulas, of turns and of acceptance. Each function does nothing: its contract is a law,
 //! which is proved, and a call brings it into the caller's proof.
 
-ghost use Rattle.am_query.specs.AcceptanceLaws.{AbsentIsAccepted, AcceptedIsRight, BestIsAccepted};
-ghost use Rattle.am_query.specs.AcceptanceLaws.{LogsAreTestedInTurn, VerdictsAreUnique, VerdictsExist};
+ghost use Rattle.am_query.specs.AcceptanceLaws.{AbsentIsAccepted, AcceptedIsRight, AcceptedWithHintsIsRight};
+ghost use Rattle.am_query.specs.AcceptanceLaws.{BestIsAccepted, HintsAreTestedInTurn, LogsAreTestedInTurn};
+ghost use Rattle.am_query.specs.AcceptanceLaws.{VerdictsAreUnique, VerdictsExist};
 ghost use Rattle.am_query.specs.Queries.{FormulasKeepTheLoad};
 ghost use Rattle.am_query.specs.QueryLaws.{CloserOnesAreChosen, CloserOnesAreReached};
 ghost use Rattle.am_query.specs.QueryLaws.{FailedExamplesAreChosen, FailedExamplesAreReached};
@@ -75,9 +76,10 @@ pub fn outcomes_have_one_verdict()
     ensures exists { VerdictsExist }
 {}
 
-/// A log fails with its first fault, and, where it has none, where it doesn't end with the empty clause.
-pub fn logs_are_tested_in_turn()
-    ensures { LogsAreTestedInTurn }
+/// A log fails with its first fault, and, where it has none, where it doesn't end with the empty clause. So do hints.
+pub fn refutations_are_tested_in_turn()
+    ensures logs { LogsAreTestedInTurn }
+    ensures hints { HintsAreTestedInTurn }
 {}
 
 /// A best transformer, or the fact that none is sound, is accepted with a valid trace and logs that refute.
@@ -86,7 +88,9 @@ pub fn refuted_outcomes_are_accepted()
     ensures absent { AbsentIsAccepted }
 {}
 
-/// What an accepted outcome of a problem says is right: its transformer is best, or no transformer is sound.
+/// What an accepted outcome of a problem says is right, by its logs or by hints: its transformer is best, or no
+/// transformer is sound.
 pub fn accepted_is_right()
-    ensures { AcceptedIsRight }
+    ensures logs { AcceptedIsRight }
+    ensures hints { AcceptedWithHintsIsRight }
 {}

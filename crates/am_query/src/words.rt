@@ -89,7 +89,7 @@ pub fn copies(alloc: Global, words: &[WordLits]) -> Result<Words, AllocError>
     Ok(copies)
 }
 
-/// A word of inputs. Their variables are put behind those of the earlier inputs.
+/// A word of inputs. Their variables are put after those of the earlier inputs.
 pub fn input_word(
     alloc: Global,
     circuit: &mut Circuit,
@@ -111,7 +111,7 @@ pub fn input_word(
     Ok(word)
 }
 
-/// So many words of inputs. Their variables are put behind those of the earlier inputs.
+/// So many words of inputs. Their variables are put after those of the earlier inputs.
 pub fn input_words(
     alloc: Global,
     circuit: &mut Circuit,

@@ -40,6 +40,7 @@ fourteen : length (slots_from known_bits 2 1 0 (0 ∷ 1 ∷ [])) ≡ 14
 unfolding known_bits slots_from
 fourteen = refl
 
-third : slice_get (slots_from known_bits 2 1 0 (0 ∷ 1 ∷ [])) 2 ≡ Some (record { symbol = 2; level = 2; productions = 0 ∷ []; children = (6 ∷ 7 ∷ []) ∷ [] })
+third : slice_get (slots_from known_bits 2 1 0 (0 ∷ 1 ∷ [])) 2
+    ≡ Some (record { symbol = 2; level = 2; productions = 0 ∷ []; children = (6 ∷ 7 ∷ []) ∷ [] })
 unfolding known_bits slots_from
 third = refl

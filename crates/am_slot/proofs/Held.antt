@@ -1,5 +1,6 @@
 -- The truth values of the selectors that choose given trees.
-use Rattle.std.specs.Prelude.{ℕ, zero, suc, ◌+◌, ◌==◌, Bool, false, List, [], ◌∷◌, ◌++◌, length, map, Option, Some, None}
+use Rattle.std.specs.Prelude.{ℕ, zero, suc, ◌+◌, ◌==◌, Bool, false, List, [], ◌∷◌, ◌++◌, length, map, Option, Some}
+use Rattle.std.specs.Prelude.{None}
 use Rattle.am_tree.specs.declared.grammar.Production.{Production}
 use Rattle.am_tree.specs.declared.tree.Tree.{Tree}
 use Rattle.am_tree.specs.Trees.{Rules, production_at, production_of, children_of}
@@ -15,9 +16,11 @@ pub record Held : Type 0 where
   pub by : List (List ℕ)
   pub tree : Option Tree
 
+-- the slot and what asks for it, without its tree
 abbrev pub asked : Held → Asked
 asked h = record { symbol = h.symbol; by = h.by }
 
+-- whether there is a tree, of this production
 abbrev pub is_of : Option Tree → ℕ → Bool
 is_of None k = false
 is_of (Some t) k = production_of t == k
@@ -27,6 +30,7 @@ abbrev pub part : Option Production → List Tree → Argument → Option Tree
 part None children a = None
 part (Some p) children a = at_argument None (arguments p) (map (λ t. Some t) children) a
 
+-- the child of a slot's tree at an argument, where there is one
 abbrev pub child_at : Rules → ℕ → Option Tree → Argument → Option Tree
 child_at rules n None a = None
 child_at rules n (Some t) a = part (production_at rules n (production_of t)) (children_of t) a
@@ -35,14 +39,22 @@ child_at rules n (Some t) a = part (production_at rules n (production_of t)) (ch
 abbrev pub slot_bits : Option Tree → List Numbered → List Bool
 slot_bits t ps = map (λ p. is_of t p.number) ps
 
+-- the truth values of the selectors of a level
 abbrev pub level_bits : Rules → ℕ → List Held → List Bool
 level_bits rules below [] = []
 level_bits rules below (h ∷ hs) = slot_bits h.tree (offered rules below h.symbol) ++ level_bits rules below hs
 
+-- the slots of the next level, with the trees that this level's trees have there
 abbrev pub next_held : Rules → ℕ → ℕ → List Held → List Held
 next_held rules below x [] = []
 next_held rules below x (h ∷ hs) =
-    map (λ a. record { symbol = a.symbol; by = asks a x (offered rules below h.symbol); tree = child_at rules h.symbol h.tree a }) (shared rules below h.symbol)
+    map
+    (λ a. record {
+      symbol = a.symbol;
+      by = asks a x (offered rules below h.symbol);
+      tree = child_at rules h.symbol h.tree a;
+    })
+    (shared rules below h.symbol)
     ++ next_held rules below (x + width rules below h.symbol) hs
 
 -- the truth values of the selectors of a level and of those below it

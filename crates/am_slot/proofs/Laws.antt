@@ -1,5 +1,6 @@
 -- What the proofs of other crates may cite of this crate's lemmas: its laws.
-use Rattle.am_slot.specs.Theorems.{SelectorsAreThoseOfTheLayout, AssignmentsServe, DerivedTuplesAreReached, TemplatesMakeSelectors, BlocksMakeTheirWeight}
+use Rattle.am_slot.specs.Theorems.{SelectorsAreThoseOfTheLayout, AssignmentsServe, DerivedTuplesAreReached}
+use Rattle.am_slot.specs.Theorems.{TemplatesMakeSelectors, BlocksMakeTheirWeight}
 use Rattle.am_slot.proofs.Scope as scope
 use Rattle.am_slot.proofs.Slots.{counted_layout}
 use Rattle.am_slot.proofs.Whole.{block_makes}

@@ -11,6 +11,7 @@ use Rattle.am_slot.specs.Selectors.{width, widths, selector, selectors}
 -- what asks for a slot: a root is asked for by no literal, another slot by the opposite of the selector
 -- of each of its parent's productions that has it as a child
 
+-- a root of a nonterminal
 abbrev pub root : ℕ → Asked
 root n = record { symbol = n; by = [] ∷ [] }
 
@@ -30,21 +31,25 @@ asks a x (p ∷ ps) =
     if list_any (same a) (arguments p.production) then (opposite_of (selector x) ∷ []) ∷ asks a (x + 1) ps
     else asks a (x + 1) ps
 
+-- the children of a slot, each with what asks for it
 abbrev pub children : ℕ → List Numbered → List Argument → List Asked
 children x ps arguments = map (λ a. record { symbol = a.symbol; by = asks a x ps }) arguments
 
+-- the clauses of the slots of a level, of which x is the first selector
 abbrev pub level_clauses : Rules → ℕ → ℕ → List Asked → List (List ℕ)
 level_clauses rules below x [] = []
 level_clauses rules below x (s ∷ ss) =
     slot_clauses s.by (selectors x (offered rules below s.symbol))
     ++ level_clauses rules below (x + width rules below s.symbol) ss
 
+-- the slots of the next level, with what asks for each
 abbrev pub next_asked : Rules → ℕ → ℕ → List Asked → List Asked
 next_asked rules below x [] = []
 next_asked rules below x (s ∷ ss) =
     children x (offered rules below s.symbol) (shared rules below s.symbol)
     ++ next_asked rules below (x + width rules below s.symbol) ss
 
+-- the nonterminals of slots
 abbrev pub symbols : List Asked → List ℕ
 symbols ss = map (λ s. s.symbol) ss
 

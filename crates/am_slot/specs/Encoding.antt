@@ -14,6 +14,7 @@ pub record Encoding : Type 0 where
   pub depth : ℕ
   pub width : ℕ
 
+-- the rules are a grammar of these starts and this depth, and words have some bit
 pub record IsEncoding (e : Encoding) : Type 0 where
   pub grammar : IsGrammar e.rules e.starts e.depth
   pub some_bit : 1 ≤ e.width

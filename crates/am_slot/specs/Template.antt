@@ -1,5 +1,5 @@
 -- Templates: the selectors of all slots, as inputs, then the clauses of all slots; what they decode to;
--- and the blocks behind them.
+-- and the blocks after them.
 use Rattle.std.specs.Prelude.{ℕ, zero, suc, ◌≡◌, ◌-◌, Bool, List, [], ◌∷◌, All, map, length}
 use Rattle.std.specs.List.{AllZip}
 use Rattle.am_bv.specs.Terms.{val}

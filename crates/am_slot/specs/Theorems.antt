@@ -25,6 +25,7 @@ pub record Serves (e : Encoding) (v : ℕ → Bool) (ts : List Tree) : Type 0 wh
       (fields : List (List ℕ)) → AreOver e (length fields) → All (λ field. length field ≡ e.width) fields →
       Means v (block e fields) (ReadAs e fields v ts)
 
+-- what meets a template decodes to a tuple that derives, and serves every block
 abbrev pub AssignmentsServe : Type 0
 AssignmentsServe = (e : Encoding) → IsEncoding e → (v : ℕ → Bool) → Means v (template e) (λ u. Serves e v (decoded e v))
 
@@ -41,6 +42,7 @@ pub record Keeps (e : Encoding) (u : ℕ → Bool) (ts : List Tree) : Type 0 whe
       (fields : List (List ℕ)) → AreOver e (length fields) → All (IsWord e.width p.next) fields →
       Reaches v (block e fields) p (λ z q words. AreOutputs e q.next words × ReadAs e fields z ts words)
 
+-- each tuple that derives is decoded from some truth values, which serve every block
 abbrev pub DerivedTuplesAreReached : Type 0
 DerivedTuplesAreReached =
     (e : Encoding) → IsEncoding e → (ts : List Tree) → IsDerived e ts →
@@ -54,6 +56,7 @@ pub record MakesSelectors (e : Encoding) (p : Place) : Type 0 where
   pub next : (past p (template e p).events).next ≡ 1 + selectors_of e
   pub same : (past p (template e p).events).folding ≡ p.folding
 
+-- a template in a new circuit makes its selectors, whatever it encodes
 abbrev pub TemplatesMakeSelectors : Type 0
 TemplatesMakeSelectors = (e : Encoding) → (p : Place) → p.next ≡ 1 → MakesSelectors e p
 

@@ -14,7 +14,7 @@ use am_lit::{Clauses, Lit};
 use am_tree::{Argument, Production, is_offered};
 use std::alloc::{AllocError, Global};
 
-/// A slot, and what asks for it: each row of `by` with the slot's selectors behind it is a clause.
+/// A slot, and what asks for it: each row of `by` with the slot's selectors after it is a clause.
 #[derive(Drop)]
 pub struct Asked {
     pub symbol: u32,
@@ -37,7 +37,7 @@ pub fn roots(alloc: Global, starts: &[u32]) -> Result<Vec<Asked>, AllocError>
     Ok(roots)
 }
 
-/// Puts the clauses of a level and of those below it behind the others, where `x` is the level's first
+/// Puts the clauses of a level and of those below it after the others, where `x` is the level's first
 /// selector.
 pub fn push_clauses(
     alloc: Global,
@@ -61,7 +61,7 @@ pub fn push_clauses(
     Ok(())
 }
 
-/// Puts the clauses of a level behind the others, and answers where the level's selectors end.
+/// Puts the clauses of a level after the others, and answers where the level's selectors end.
 fn push_level(
     alloc: Global,
     clauses: &mut Clauses,
@@ -96,7 +96,7 @@ fn selectors(alloc: Global, x: u32, count: u32) -> Result<Vec<Lit>, AllocError>
         .collect(alloc)
 }
 
-/// Puts the clauses of a slot with these selectors behind the others.
+/// Puts the clauses of a slot with these selectors after the others.
 fn push_slot(
     alloc: Global,
     clauses: &mut Clauses,
@@ -120,7 +120,7 @@ fn joined(alloc: Global, first: &[Lit], second: &[Lit]) -> Result<Vec<Lit>, Allo
     first.iter().chain(second.iter()).copied().collect(alloc)
 }
 
-/// Puts behind the others, for each two of the literals, the clause that not both are true.
+/// Puts after the others, for each two of the literals, the clause that not both are true.
 fn push_pairs(clauses: &mut Clauses, literals: &[Lit]) -> Result<(), AllocError>
     requires { length clauses.old + length (pairs literals.now) < 2 ^ 32 - 1 }
     ensures { OnOk result (clauses.new ≡ clauses.old ++ pairs literals.now) }
@@ -131,7 +131,7 @@ fn push_pairs(clauses: &mut Clauses, literals: &[Lit]) -> Result<(), AllocError>
     Ok(())
 }
 
-/// Puts behind the others, for each later literal, the clause that not both are true.
+/// Puts after the others, for each later literal, the clause that not both are true.
 fn push_pairs_with(clauses: &mut Clauses, literal: Lit, later: &[Lit]) -> Result<(), AllocError>
     requires { length clauses.old + length later.now < 2 ^ 32 - 1 }
     ensures { OnOk result (clauses.new
@@ -164,7 +164,7 @@ fn next_asked(
     Ok(next)
 }
 
-/// Puts the children of a slot of a nonterminal behind the others, where `x` is its first selector.
+/// Puts the children of a slot of a nonterminal after the others, where `x` is its first selector.
 fn push_children(
     alloc: Global,
     next: &mut Vec<Asked>,

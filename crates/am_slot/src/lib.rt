@@ -5,7 +5,7 @@
 //! that derive with the grammar's depth; and each such tuple is chosen by truth values that satisfy
 //! them. [`Template::decode`] gives the tuple. [`Template::at`] makes a block: a word of gates for each
 //! start, which reads as the value of the chosen tree's term at what the words of the fields read. All
-//! blocks behind one template read as the same tuple.
+//! blocks after one template read as the same tuple.
 //!
 //! ```text
 //! let mut circuit = Circuit::new_folding(alloc)?;
@@ -26,7 +26,7 @@
 //! gates of a block (`specs/Blocks.antt`), in order and no input: at most as many as the block
 //! weighs, and exactly so many in a circuit that doesn't fold. Its words read as the **values of
 //! the decoded tuple's terms** at what the fields read. One law leads from truth values to one
-//! tuple that serves all blocks behind a template, and one from a tuple back to truth values from
+//! tuple that serves all blocks after a template, and one from a tuple back to truth values from
 //! which every block can be met ([`theorems`]). [`Template::decode`] gives the last production of a
 //! slot whose selector is true, which is defined for every assignment; where the clauses are
 //! satisfied, its trees derive. All of it holds in both forms of circuits.

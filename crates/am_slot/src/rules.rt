@@ -223,7 +223,7 @@ fn count_offered(below: u32, productions: &[Production]) -> u32
     count
 }
 
-/// Puts the nonterminals of the children behind the others.
+/// Puts the nonterminals of the children after the others.
 fn add_symbols(next: &mut Vec<u32>, children: &[Argument]) -> Result<(), AllocError>
     ensures { OnOk result (next.new.items ≡ next.old.items ++ map (λ a. a.symbol) children.now) }
 {

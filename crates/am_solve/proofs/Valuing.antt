@@ -1,4 +1,6 @@
-use Rattle.std.proofs.Common.{ℕ, ◌≡◌, ◌≢◌, ◌+◌, ◌*◌, ◌/◌, ◌%◌, ◌<◌, Bool, true, false, not, List, [], ◌∷◌, ◌++◌, All, length, map, get_or, refl, sym, inl, inr, arith}
+-- The assignment that is read from a trail.
+use Rattle.std.proofs.Common.{ℕ, ◌≡◌, ◌≢◌, ◌+◌, ◌*◌, ◌/◌, ◌%◌, ◌<◌, Bool, true, false, not, List, [], ◌∷◌, ◌++◌, All}
+use Rattle.std.proofs.Common.{length, map, get_or, refl, sym, inl, inr, arith}
 use Rattle.std.specs.Prelude.{Contains, IsTrue}
 use Rattle.std.proofs.lemmas.Bool.{eq-eqb, ne_eqb}
 use Rattle.std.proofs.lemmas.List.{get_or_append_left}
@@ -8,9 +10,7 @@ use Rattle.am_lit.specs.Literal.{literal_of, variable_of}
 use Rattle.am_lit.specs.Clause.{IsNormal}
 use Rattle.am_lit.specs.Truth.{AllHold, Satisfies, literal_value, value_at}
 use Rattle.am_lit.specs.UnitRow.{IsConsistent, IsSettled}
-use Rattle.am_lit.proofs.Laws.{same_or}
-use Rattle.am_lit.proofs.Laws.{satisfied_by_settled}
-use Rattle.am_lit.proofs.Laws.{other_literal}
+use Rattle.am_lit.proofs.Laws.{same_or, satisfied_by_settled, other_literal}
 use Rattle.am_solve.proofs.Branching.{no_value}
 
 -- the literal that is true where its variable has a value
@@ -21,7 +21,9 @@ HasItsValue row v b = Contains row (literal_of v (not b))
 abbrev pub HaveTheirValues : List ℕ → List Bool → Type 0
 HaveTheirValues row values = (v : ℕ) → v < length values → HasItsValue row v (get_or values v false)
 
-pub values_more : (row : List ℕ) (values : List Bool) (v : ℕ) (b : Bool) → length values ≡ v → HaveTheirValues row values → HasItsValue row v b
+-- one more variable gets the value that the row gives it
+pub values_more : (row : List ℕ) (values : List Bool) (v : ℕ) (b : Bool) → length values ≡ v
+    → HaveTheirValues row values → HasItsValue row v b
     → (u : ℕ) → u < v + 1 → HasItsValue row u (get_or (values ++ b ∷ []) u false)
 values_more row values v b long h here u lt = elim (same_or u v) [
   | inl e ↦ rw (e, ← long, get_or-append_seam values b [] false, long) here
@@ -44,21 +46,27 @@ value_is f v false e =
     rw (ne_eqb ((2 * v + 1) % 2) 0 odd, half, e) refl
 
 -- each literal of the row holds
-pub all_hold : (row : List ℕ) (values : List Bool) → IsConsistent row → HaveTheirValues row values → ((l : ℕ) → Contains row l → variable_of l < length values) → AllHold (value_at values) row
-all_hold row values consistent h below = All-weaker (Contains row) (λ l. IsTrue (literal_value (value_at values) l)) one row (All-contains_itself row) where
-  one : (l : ℕ) → Contains row l → IsTrue (literal_value (value_at values) l)
-  one l there =
-      let v = variable_of l in
-      let b = get_or values v false in
-      let m = literal_of v (not b) in
-      let has = h v (below l there) in
-      elim (same_or l m) [
-        | inl e ↦ rw e (value_is (value_at values) v b refl)
-        | inr ne ↦ absurd (consistent m has (rw (other_literal m l (sym (variable_of-literal_of v b)) ne) at there))
-      ]
+pub all_hold : (row : List ℕ) (values : List Bool) → IsConsistent row → HaveTheirValues row values
+    → ((l : ℕ) → Contains row l → variable_of l < length values)
+    → AllHold (value_at values) row
+all_hold row values consistent h below =
+    All-weaker (Contains row) (λ l. IsTrue (literal_value (value_at values) l)) one row (All-contains_itself row) where
+      one : (l : ℕ) → Contains row l → IsTrue (literal_value (value_at values) l)
+      one l there =
+          let v = variable_of l in
+          let b = get_or values v false in
+          let m = literal_of v (not b) in
+          let has = h v (below l there) in
+          elim (same_or l m) [
+            | inl e ↦ rw e (value_is (value_at values) v b refl)
+            | inr ne ↦ absurd (consistent m has (rw (other_literal m l (sym (variable_of-literal_of v b)) ne) at there))
+          ]
 
 -- a row that settles normal clauses, and has a value for each variable, satisfies them
-pub all_satisfied : (row : List ℕ) (values : List Bool) (clauses : List (List ℕ)) (vars : ℕ) → AllHold (value_at values) row → All (IsSettled row) clauses → All (IsNormal vars) clauses
+pub all_satisfied : (row : List ℕ) (values : List Bool) (clauses : List (List ℕ)) (vars : ℕ)
+    → AllHold (value_at values) row → All (IsSettled row) clauses → All (IsNormal vars) clauses
     → ((v : ℕ) → v < vars → Contains (map variable_of row) v) → Satisfies (value_at values) clauses
 all_satisfied row values clauses vars holds settled normal total =
-    satisfied_by_settled (value_at values) row holds clauses settled (λ k d lt. λ j e lj free. no_value row (get_or (get_or clauses k d) j e) free (total (variable_of (get_or (get_or clauses k d) j e)) ((normal k d lt).below j e lj)))
+    satisfied_by_settled (value_at values) row holds clauses settled
+    (λ k d lt. λ j e lj free. no_value row (get_or (get_or clauses k d) j e) free
+    (total (variable_of (get_or (get_or clauses k d) j e)) ((normal k d lt).below j e lj)))

@@ -2,16 +2,16 @@
 
 ghost use Rattle.std.specs.Prelude.{◌≡◌, ◌≢◌, ◌+◌, ◌-◌, ◌<◌, ◌≤◌, ℕ, Bool, true, false, List, [], ◌++◌, length, All};
 ghost use Rattle.std.specs.Prelude.{Contains, slice_index_or, OnOk, IfOk, IsSome, Some};
-ghost use Rattle.std.specs.List.Sorted.{IsStrictlyIncreasing};
 ghost use Rattle.am_lit.specs.Literal.{opposite_of};
 ghost use Rattle.am_trail.specs.Trails.{literals};
 ghost use Rattle.am_lit.specs.SearchLaws.{IsFalseIn};
 ghost use Rattle.am_trail.specs.declared.entry.Entry.{Entry};
 ghost use Rattle.am_lit.specs.Clause.{IsNormal};
 ghost use Rattle.am_watch.specs.Watching.{IsExplained};
-ghost use Rattle.am_solve.specs.inside.Marking.{AreImpliedAfter, HasOpposite, IsReasonAt, IsUnique, mark_at};
-ghost use Rattle.am_solve.specs.inside.Searching.{IsFalseClause, SettledBelow};
-ghost use Rattle.am_solve.specs.inside.Searches.{Counts, HasDerived, HasResolved, IsAnalysis, MarksMore};
+ghost use Rattle.am_chain.specs.inside.Marks.{mark_at};
+ghost use Rattle.am_solve.specs.inside.Marking.{IsUnique, LeadsToOne};
+ghost use Rattle.am_solve.specs.inside.Searching.{IsConflict, IsFalseClause, SettledBelow};
+ghost use Rattle.am_solve.specs.inside.Searches.{CanResolveAt, Counts, FitsTrail, HasResolvedAt, IsAnalysis, MarksMore};
 
 use crate::marks::Marks;
 use am_chain::{Step, Steps};
@@ -55,24 +55,11 @@ pub fn resolve_at(
     i: u32,
     reason: u32,
 ) -> Result<(), AllocError>
-    requires number { reason < length (given.now ++ learnt.now) }
-    requires forced { IsReasonAt (given.now ++ learnt.now) (literals trail.now.entries) reason i }
-    requires rises { IsStrictlyIncreasing (slice_index_or (given.now ++ learnt.now) reason []) }
-    requires inside { i < length trail.now.entries }
-    requires marked { mark_at marks.old.places.items i ≡ true }
-    requires high { marks.old.start ≤ i }
-    requires len { length marks.old.places.items ≡ length trail.now.entries }
-    requires counted { Counts (literals trail.now.entries) marks.old }
+    requires can { CanResolveAt (given.now ++ learnt.now) trail.now marks.old reason i }
+    requires fits { FitsTrail trail.now marks.old }
     ensures start { marks.new.start ≡ marks.old.start }
-    ensures len { OnOk result (length marks.new.places.items ≡ length trail.now.entries) }
-    ensures counted { OnOk result (Counts (literals trail.now.entries) marks.new) }
-    ensures count { OnOk result (marks.old.count ≤ marks.new.count + 1) }
-    ensures derived { OnOk result ((first : ℕ)
-        → HasDerived (given.now ++ learnt.now) trail.now marks.old first steps.old (i + 1)
-        → HasDerived (given.now ++ learnt.now) trail.now marks.new first steps.new i) }
-    ensures resolved { OnOk result ((first : ℕ)
-        → HasResolved (given.now ++ learnt.now) trail.now marks.old first steps.old (i + 1)
-        → HasResolved (given.now ++ learnt.now) trail.now marks.new first steps.new i) }
+    ensures resolved { OnOk result
+        (HasResolvedAt (given.now ++ learnt.now) trail.now marks.old marks.new steps.old steps.new i) }
 {
     trail.known();
     let l = trail.literal(i);
@@ -148,13 +135,8 @@ pub fn first_unique(
     conflict: u32,
     start: u32,
 ) -> Result<Found, AllocError>
-    requires number { conflict < length (given.now ++ learnt.now) }
-    requires untrue { IsFalseClause (given.now ++ learnt.now) trail.now.entries conflict }
-    requires rise { All IsStrictlyIncreasing (given.now ++ learnt.now) }
-    requires explained { IsExplained 0 (given.now ++ learnt.now) trail.now.entries }
-    requires implied { AreImpliedAfter start trail.now.entries }
-    requires reaches { HasOpposite (literals trail.now.entries) start
-        (slice_index_or (given.now ++ learnt.now) conflict []) }
+    requires conflict { IsConflict (given.now ++ learnt.now) trail.now.entries conflict }
+    requires leads { LeadsToOne (given.now ++ learnt.now) trail.now.entries start conflict }
     ensures { IfOk result (λ f. (marks : List Bool)
         × IsUnique (given.now ++ learnt.now) (literals trail.now.entries) start
         conflict marks f.kept.items f.steps f.place) }

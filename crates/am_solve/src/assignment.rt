@@ -3,8 +3,8 @@
 ghost use Rattle.std.specs.Prelude.{◌≡◌, ◌^◌, ◌<◌, not, Contains, length, IfOk};
 ghost use Rattle.am_lit.specs.Literal.{literal_of};
 ghost use Rattle.am_lit.specs.Truth.{AllHold, value_at};
-ghost use Rattle.am_trail.specs.Trails.{literals};
-ghost use Rattle.am_solve.specs.inside.Choosing.{HasValue, IsTotal};
+ghost use Rattle.am_trail.specs.Trails.{HasValue, literals};
+ghost use Rattle.am_solve.specs.inside.Choosing.{IsTotal};
 
 use am_lit::{Assignment, Lit, Values};
 use am_trail::Trail;

@@ -5,10 +5,10 @@ ghost use Rattle.std.specs.Prelude.{IfNone, IfSome};
 ghost use Rattle.am_lit.specs.Literal.{variable_of};
 ghost use Rattle.am_lit.specs.UnitRow.{IsFree};
 ghost use Rattle.am_chain.specs.declared.chain.Step.{Step};
-ghost use Rattle.am_trail.specs.Trails.{literals};
+ghost use Rattle.am_trail.specs.Trails.{HasValue, literals};
 ghost use Rattle.am_trail.specs.Trails.{upto};
 ghost use Rattle.am_trail.specs.declared.entry.Entry.{Entry};
-ghost use Rattle.am_solve.specs.inside.Choosing.{HasValue, IsPick, IsTotal, KeepsHeld};
+ghost use Rattle.am_solve.specs.inside.Choosing.{IsPick, IsTotal, KeepsHeld};
 ghost use Rattle.am_solve.specs.inside.Searches.{Chooses};
 
 use am_chain::Step;

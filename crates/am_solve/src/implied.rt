@@ -6,8 +6,8 @@ ghost use Rattle.am_lit.specs.Clause.{IsNormal};
 ghost use Rattle.am_trail.specs.Trails.{literals};
 ghost use Rattle.am_watch.specs.Watching.{IsExplained};
 ghost use Rattle.am_solve.specs.inside.Marking.{IsDecided, IsKept, WasDecided};
-ghost use Rattle.am_solve.specs.inside.Searching.{IsFalseClause, SettledBelow};
-ghost use Rattle.am_solve.specs.inside.Searches.{Counts, HasResolved, IsAnalysis};
+ghost use Rattle.am_solve.specs.inside.Searching.{IsConflict, IsFalseClause, SettledBelow};
+ghost use Rattle.am_solve.specs.inside.Searches.{FitsTrail, HasResolved, IsAnalysis};
 
 use crate::analysis::{Found, absent_literal, mark_all, resolve_at};
 use crate::marks::Marks;
@@ -30,11 +30,9 @@ pub fn resolve_implied(
     requires explained { IsExplained 0 (given.now ++ learnt.now) trail.now.entries }
     requires inside { i < length trail.now.entries }
     requires start { marks.old.start ≡ 0 }
-    requires len { length marks.old.places.items ≡ length trail.now.entries }
-    requires counted { Counts (literals trail.now.entries) marks.old }
+    requires fits { FitsTrail trail.now marks.old }
     ensures start { OnOk result (marks.new.start ≡ 0) }
-    ensures len { OnOk result (length marks.new.places.items ≡ length trail.now.entries) }
-    ensures counted { OnOk result (Counts (literals trail.now.entries) marks.new) }
+    ensures fits { OnOk result (FitsTrail trail.now marks.new) }
     ensures resolved { OnOk result ((first : ℕ)
         → HasResolved (given.now ++ learnt.now) trail.now marks.old first steps.old (i + 1)
         → HasResolved (given.now ++ learnt.now) trail.now marks.new first steps.new i) }
@@ -65,10 +63,7 @@ pub fn resolve_all(
     learnt: &Clauses,
     conflict: u32,
 ) -> Result<Resolved, AllocError>
-    requires number { conflict < length (given.now ++ learnt.now) }
-    requires untrue { IsFalseClause (given.now ++ learnt.now) trail.now.entries conflict }
-    requires rise { All IsStrictlyIncreasing (given.now ++ learnt.now) }
-    requires explained { IsExplained 0 (given.now ++ learnt.now) trail.now.entries }
+    requires { IsConflict (given.now ++ learnt.now) trail.now.entries conflict }
     ensures resolved { IfOk result (λ f. HasResolved (given.now ++ learnt.now) trail.now f.marks conflict f.steps 0) }
     ensures len { IfOk result (λ f. length f.marks.places.items ≡ length trail.now.entries) }
 {

@@ -4,7 +4,7 @@ ghost use Rattle.std.specs.Prelude.{◌≡◌, ◌+◌, ◌-◌, ◌<◌, ◌≤
 ghost use Rattle.std.specs.Prelude.{OnOk, IfOk};
 ghost use Rattle.am_lit.specs.Literal.{opposite_of};
 ghost use Rattle.am_trail.specs.Trails.{literals};
-ghost use Rattle.am_solve.specs.inside.Marking.{mark_at};
+ghost use Rattle.am_chain.specs.inside.Marks.{mark_at};
 ghost use Rattle.am_solve.specs.inside.Searches.{Counts};
 
 use am_lit::Lit;

@@ -7,10 +7,8 @@ ghost use Rattle.am_lit.specs.Literal.{variable_of};
 ghost use Rattle.am_lit.specs.Clause.{IsNormal};
 ghost use Rattle.am_lit.specs.UnitRow.{IsFree, IsNew, IsSettled};
 ghost use Rattle.am_chain.specs.Chains.{clause_of};
-ghost use Rattle.am_trail.specs.Trails.{literals};
-ghost use Rattle.am_trail.specs.Trails.{upto};
+ghost use Rattle.am_trail.specs.Trails.{decided, literals, returned};
 ghost use Rattle.am_watch.specs.Watching.{Extends, IsPropagated, empty_trail};
-ghost use Rattle.am_solve.specs.inside.Searching.{decided_at};
 ghost use Rattle.am_solve.specs.inside.Searches.{CanChoose, Searches, SettlesBelow};
 
 use crate::choice::Choice;
@@ -33,7 +31,6 @@ pub struct Search {
 impl Search {
     /// A search that has learnt and decided nothing.
     pub fn new(alloc: Global, formula: &Formula) -> Result<Search, AllocError>
-        requires { formula.now.vars < 2 ^ 31 }
         ensures searches { IfOk result (Searches formula.now.clauses) }
         ensures learnt { IfOk result (λ s. s.learnt ≡ []) }
         ensures trail { IfOk result (λ s. s.trail ≡ empty_trail formula.now.vars) }
@@ -57,10 +54,8 @@ impl Search {
         requires free { IsFree (literals self.old.trail.entries) l }
         ensures searches { Searches given.now self.new }
         ensures choice { self.new.choice ≡ self.old.choice }
-        ensures trail { let e = decided_at l (self.old.trail.level + 1) in
-            self.new.trail.entries ≡ self.old.trail.entries ++ e ∷ [] }
+        ensures trail { self.new.trail ≡ decided self.old.trail l }
         ensures learnt { self.new.learnt ≡ self.old.learnt }
-        ensures vars { self.new.trail.vars ≡ self.old.trail.vars }
     {
         self.trail.known();
         self.trail.decide(l);
@@ -72,11 +67,9 @@ impl Search {
         requires chooses { CanChoose self.old }
         requires level { level ≤ self.old.trail.level }
         ensures searches { Searches given.now self.new }
+        ensures trail { self.new.trail ≡ returned self.old.trail level }
         ensures learnt { self.new.learnt ≡ self.old.learnt }
-        ensures vars { self.new.trail.vars ≡ self.old.trail.vars }
         ensures chooses { CanChoose self.new }
-        ensures entries { self.new.trail.entries ≡ upto level self.old.trail.entries }
-        ensures level { self.new.trail.level ≡ level }
         ensures log { self.new.log ≡ self.old.log }
     {
         self.trail.known();

@@ -31,7 +31,7 @@ reached_then s t u p q = record {
   same_end = q.same_end ∙ p.same_end;
 }
 
--- behind a value that was read
+-- after a value that was read
 pub reached_ok : {X : Type 0} (reader : Reader X) (s t : Left) (x : X) → Advances reader → reader s ≡ Ok (x, t) →
     Reached s t
 reached_ok reader s t x forward e = subst (Reached s) (ap left_by e) (forward s)
@@ -61,13 +61,13 @@ onward_reached : {X Y : Type 0} (s : Left) (read : Read X) (next : X → Reader 
 onward_reached s (Ok p) next here then = reached_then s p.1 (left_by (next p.0 p.1)) here (then p.0 p.1 refl)
 onward_reached s (Err stop) next here then = here
 
--- one reader behind another, which goes forward behind what was read
+-- one reader after another, which goes forward after what was read
 pub bind_reached : {X Y : Type 0} (s : Left) (reader : Reader X) (next : X → Reader Y) → Advances reader →
     ((x : X) (t : Left) → reader s ≡ Ok (x, t) → Reached t (left_by (next x t))) →
     Reached s (left_by (onward next (reader s)))
 bind_reached s reader next one two = onward_reached s (reader s) next (one s) two
 
--- one reader behind another
+-- one reader after another
 pub bind_advances : {X Y : Type 0} (reader : Reader X) (next : X → Reader Y) → Advances reader →
     ((x : X) → Advances (next x)) → Advances (reader >>= next)
 bind_advances reader next one two s = bind_reached s reader next one (λ x t _. two x t)

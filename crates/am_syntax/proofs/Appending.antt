@@ -31,7 +31,7 @@ appends_last (Ok u) old mid new a b done last =
     last ∙ ap (λ (bs : List ℕ). bs ++ b) done ∙ append_assoc old a b
 appends_last (Err e) old mid new a b done last = grew_next a done last
 
--- no part stands behind the text
+-- no part stands after the text
 pub appends_alone : {E : Type 0} (r : Result (Unit {0}) E) (old new a : List ℕ) → Appends r old new a →
     Appends r old new (a ++ [])
 appends_alone r old new a h = subst (Appends r old new) (sym (append-nil a)) h
@@ -62,7 +62,7 @@ grew_item f xs i x old mid new h at done grew =
     subst (GrewToward old new) (sym (flat_map_at f xs i x h at))
     (grew_next (flat_map f (take i xs)) done (grew_first (flat_map f (drop (suc i) xs)) grew))
 
--- the text of a place's item was written behind those before it
+-- the text of a place's item was written after those before it
 pub wrote_item : {A : Type 0} (f : A → List ℕ) (xs : List A) (i : ℕ) (x : A) (old mid new : List ℕ) →
     i < length xs → x ≡ get_or xs i x → mid ≡ old ++ flat_map f (take i xs) → new ≡ mid ++ f x →
     new ≡ old ++ flat_map f (take (i + 1) xs)

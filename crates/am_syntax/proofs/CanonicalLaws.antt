@@ -137,6 +137,7 @@ none_bad text h = position_from-zero (λ b. not (is_allowed b)) text ∙ none_fr
 pub spaced_is_text : (ws : Words) → AreTokens ws → bad_byte (spaced ws) ≡ None
 spaced_is_text ws are = none_bad (spaced ws) (spaced_allowed ws are)
 
+-- lines of tokens have no bad byte
 pub lines_is_text : (rows : List Words) → AllByRecursion AreTokens rows → bad_byte (lines rows) ≡ None
 lines_is_text rows are = none_bad (lines rows) (lines_allowed rows are)
 

@@ -1,10 +1,10 @@
 -- What proofs of other crates may cite of pieces, tokens, terms, texts and the loops over items.
 
--- what was taken from the front: nothing, one behind another, its words, its length, in two halves
+-- what was taken from the front: nothing, one after another, its words, its length, in two halves
 pub use Rattle.am_syntax.proofs.Takes.{Takes-none, Takes-then, Takes-words, Takes-length, Takes-halves, Takes-nothing}
--- tokens that were reached: none taken, behind a value; a judge goes forward alone
+-- tokens that were reached: none taken, after a value; a judge goes forward alone
 pub use Rattle.am_syntax.proofs.Advancing.{reached_here, reached_ok, judged_advances}
--- readers of readers go forward alone: one behind another, seen otherwise, one of two, so many items, as many as come
+-- readers of readers go forward alone: one after another, seen otherwise, one of two, so many items, as many as come
 pub use Rattle.am_syntax.proofs.Advancing.{bind_reached, bind_advances, seen_advances, if_reached, times_advances}
 pub use Rattle.am_syntax.proofs.Advancing.{repeat_advances}
 -- what a call answers that failed, or that reads ahead of a cursor
@@ -14,7 +14,7 @@ pub use Rattle.am_syntax.proofs.Loops.{times_more, times_fails, times_done}
 pub use Rattle.am_syntax.proofs.Repeats.{so_far_more, so_far_fails, so_far_done}
 -- equal words; a step that wasn't refused
 pub use Rattle.am_syntax.proofs.PieceLaws.{bytes_eq-same, same_bytes, ok_is, bind_ok}
--- pieces are exact: one token, a key word, one behind another, with key words, another view, what comes next decides,
+-- pieces are exact: one token, a key word, one after another, with key words, another view, what comes next decides,
 -- one more
 pub use Rattle.am_syntax.proofs.PieceLaws.{token_law, key_law, then_law, keyed_law, closed_law, seen_law}
 pub use Rattle.am_syntax.proofs.PieceLaws.{seen_good_law, optional_law, choice_law, one_more_law}
@@ -37,7 +37,7 @@ pub use Rattle.am_syntax.proofs.TextLaws.{text_found, text_read, text_settled, t
 -- a word that opens nothing; words that stand apart: a word, those of a term, two rows of them
 pub use Rattle.am_syntax.proofs.SpacedLaws.{StandApart, spaced-word, word_apart, term_apart, spaced_apart}
 pub use Rattle.am_syntax.proofs.SpacedLaws.{both_apart}
--- the text of each of a list behind a space, also behind an operator, where the words of each stand apart
+-- the text of each of a list after a space, also after an operator, where the words of each stand apart
 pub use Rattle.am_syntax.proofs.SpacedLaws.{EachApart, each_text, spaced_each, node_text, node_apart}
 -- the text of each kind of term
 pub use Rattle.am_syntax.proofs.SpacedLaws.{text-Const, text-Field, text-Node}

@@ -1,6 +1,7 @@
 -- The text of a line of a key word and entries.
 use Rattle.std.proofs.Common.{◌≡◌, ℕ, zero, suc, Bool, true, false, ◌||◌, not, List, [], ◌∷◌, ◌++◌, codes, All}
-use Rattle.std.proofs.Common.{bytes_eq, decimal, flat_map, map, ap, ◌∙◌, refl, sym, subst, arith, append_assoc, append-nil}
+use Rattle.std.proofs.Common.{bytes_eq, decimal, flat_map, map, ap, ◌∙◌, refl, sym, subst, arith, append_assoc}
+use Rattle.std.proofs.Common.{append-nil}
 use Rattle.std.specs.Prelude.{IsTrue}
 use Rattle.std.specs.List.{AllByRecursion}
 use Rattle.am_bv.specs.declared.term.Term.{Term as Tree}
@@ -14,9 +15,9 @@ use Rattle.am_syntax.specs.Spelling.{FitsSomewhere, letter_code, term_words}
 use Rattle.am_syntax.proofs.SpacedLaws.{StandApart, spaced-word, term_apart, word_apart}
 use Rattle.am_syntax.proofs.WordTokens.{number_apart}
 
--- ---- words behind others
+-- ---- words after others
 
--- words that stand behind others as they do alone, whatever follows them
+-- words that stand after others as they do alone, whatever follows them
 abbrev StandBehind : Words → Type 0
 StandBehind us = (ws : Words) → after (us ++ ws) ≡ after us ++ after ws
 
@@ -65,20 +66,21 @@ word_opens v h = (neither (bytes_eq v (codes "(")) (bytes_eq v (codes ")")) h).0
 key_apart : (v : Word) → IsTrue (is_apart v) → StandApart (v ∷ [])
 key_apart v h = word_apart v (word_opens v h) (neither (bytes_eq v (codes "(")) (bytes_eq v (codes ")")) h).1
 
--- a word behind a space
+-- a word after a space
 pub after_word : (v : Word) → IsTrue (is_apart v) → after (v ∷ []) ≡ 32 ∷ v
 after_word v h = after_apart (v ∷ []) (key_apart v h)
 
 numbers_behind : (ns : List ℕ) → StandBehind (map decimal ns)
 numbers_behind [] ws = refl
 numbers_behind (n ∷ ns) ws =
-    both_behind (decimal n ∷ []) (map decimal ns) (apart_behind (decimal n ∷ []) (number_apart n)) (numbers_behind ns) ws
+    both_behind (decimal n ∷ []) (map decimal ns) (apart_behind (decimal n ∷ []) (number_apart n))
+    (numbers_behind ns) ws
 
--- a number behind a space
+-- a number after a space
 pub after_number : (n : ℕ) → after (decimal n ∷ []) ≡ 32 ∷ decimal n
 after_number n = after_apart (decimal n ∷ []) (number_apart n)
 
--- numbers, each behind a space
+-- numbers, each after a space
 pub after_numbers : (ns : List ℕ) → after (map decimal ns) ≡ flat_map (λ n. 32 ∷ decimal n) ns
 after_numbers [] = refl
 after_numbers (n ∷ ns) =
@@ -90,8 +92,9 @@ module _ (l : Letter) where
   own_apart : (t : Tree) → FitsSomewhere t → StandApart (term_words (letter_code l) t)
   own_apart t fits = term_apart l fits.scope fits.is t fits.fit
 
-  -- a term behind a space
-  pub after_term : (t : Tree) → FitsSomewhere t → after (term_words (letter_code l) t) ≡ 32 ∷ term_text (letter_code l) t
+  -- a term after a space
+  pub after_term : (t : Tree) → FitsSomewhere t →
+      after (term_words (letter_code l) t) ≡ 32 ∷ term_text (letter_code l) t
   after_term t fits = after_apart (term_words (letter_code l) t) (own_apart t fits)
 
   terms_each : (ts : List Tree) → All FitsSomewhere ts → EachBehind (term_words (letter_code l)) ts
@@ -101,14 +104,15 @@ module _ (l : Letter) where
     terms_each ts (λ k d below. fit (suc k) d (omega (arith, below))),
   )
 
-  -- terms, each behind a space
+  -- terms, each after a space
   pub after_terms : (ts : List Tree) → All FitsSomewhere ts →
       after (flat_map (term_words (letter_code l)) ts) ≡ flat_map (λ t. 32 ∷ term_text (letter_code l) t) ts
   after_terms [] fit = refl
   after_terms (t ∷ ts) fit =
       let behind = terms_each (t ∷ ts) fit in
       behind.0 (flat_map (term_words (letter_code l)) ts)
-      ∙ ap (λ (bs : List ℕ). bs ++ after (flat_map (term_words (letter_code l)) ts)) (after_term t (fit zero t (omega arith)))
+      ∙ ap (λ (bs : List ℕ). bs ++ after (flat_map (term_words (letter_code l)) ts))
+      (after_term t (fit zero t (omega arith)))
       ∙ ap (λ (bs : List ℕ). (32 ∷ term_text (letter_code l) t) ++ bs)
       (after_terms ts (λ k d below. fit (suc k) d (omega (arith, below))))
 

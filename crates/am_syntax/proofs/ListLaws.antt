@@ -16,7 +16,7 @@ use Rattle.am_syntax.proofs.PieceLaws.{bind_ok, ok_is}
 snoc : {X : Type 0} (seen : List X) (x : X) (xs : List X) → (seen ++ x ∷ []) ++ xs ≡ seen ++ x ∷ xs
 snoc seen x xs = append_assoc seen (x ∷ []) xs
 
--- items behind those seen, and what is left
+-- items after those seen, and what is left
 pub record Found {X : Type 0} (item : List X → Piece X) (seen : List X) (s : Left) (all : List X)
     (t : Left) : Type 0 where
   pub items : List X
@@ -86,6 +86,7 @@ module _ {X : Type 0} {item : List X → Piece X} {May : Words → Type 0}
       ∙ times_again next xs (seen ++ x ∷ []) h.between u good.1 h.second may
       ∙ ap (λ (ys : List X). Ok (ys, u)) (snoc seen x xs)
 
+  -- n items are read exactly where n good ones are spelled
   pub times_law : ((seen : List X) (x : X) (rest : Words) → (item seen).Good x → May ((item seen).spell x ++ rest)) →
       (n : ℕ) → IsExact (times item n) May
   times_law next n = record {
@@ -106,6 +107,7 @@ module _ {X : Type 0} {item : List X → Piece X} {May : Words → Type 0}
   abbrev Moves : Type 0
   Moves = (seen : List X) (x : X) → (item seen).Good x → 0 < length ((item seen).spell x)
 
+  -- each item that is read takes a token at least
   pub moves_on : Moves → (seen : List X) (s : Left) (x : X) (t : Left) → read seen s ≡ Ok (x, t) →
       length t.tokens < length s.tokens
   moves_on moves seen s x t e =
@@ -159,6 +161,7 @@ module _ {X : Type 0} {item : List X → Piece X} {May : Words → Type 0}
           ∙ repeat_again xs (seen ++ x ∷ []) h.between u good.1 h.second end
           ∙ ap (λ (ys : List X). Ok (ys, u)) (snoc seen x xs)
 
+      -- a list is read exactly where good items are spelled, up to where the test fails
       pub repeat_law : IsExact (repeat goes item) End
       repeat_law = record {
         takes = λ s xs u e.

@@ -8,6 +8,7 @@ use Rattle.am_syntax.specs.declared.refusal.Failure.TheVariants.{Refused, NoMemo
 use Rattle.am_syntax.specs.Readers.{◌>>=◌, Gives, Makes, Read, Reader, follows, onward}
 use Rattle.am_syntax.specs.Pieces.{times_from}
 
+-- what a call answers that takes no memory and is refused
 pub gives_err : {X Y : Type 0} (view : X → Y) (old left : Left) (reader : Reader Y) (cause : Cause)
     (r : Result X Cause) → r ≡ Err cause → reader old ≡ Err (cause, left) → Gives view r old left reader
 gives_err {X = X} view old left reader cause r is h =
@@ -53,16 +54,19 @@ module _ {X : Type 0} (item : List X → Reader X) where
       ap (λ m. times_from item m seen s) k ∙ times_one (n - (i + 1)) seen s
       ∙ ap (onward (λ x. times_from item (n - (i + 1)) (seen ++ x ∷ []))) e
 
+  -- one more item was read
   pub times_more : (n i : ℕ) (seen : List X) (s : Left) (x : X) (t : Left) (whole : Read (List X)) → i < n →
       item seen s ≡ Ok (x, t) →
       times_from item (n - i) seen s ≡ whole → times_from item (n - (i + 1)) (seen ++ x ∷ []) t ≡ whole
   times_more n i seen s x t whole below e so_far = sym (next_one n i seen s (Ok (x, t)) below e) ∙ so_far
 
+  -- a refused item refuses the whole
   pub times_fails : (n i : ℕ) (seen : List X) (s : Left) (stop : Cause × Left) (whole : Read (List X)) → i < n →
       item seen s ≡ Err stop →
       times_from item (n - i) seen s ≡ whole → whole ≡ Err stop
   times_fails n i seen s stop whole below is so_far = sym so_far ∙ next_one n i seen s (Err stop) below is
 
+  -- all items were read
   pub times_done : (n i : ℕ) (seen : List X) (s : Left) (whole : Read (List X)) → n ≤ i →
       times_from item (n - i) seen s ≡ whole → whole ≡ Ok (seen, s)
   times_done n i seen s whole le so_far =

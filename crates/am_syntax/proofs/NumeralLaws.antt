@@ -1,6 +1,6 @@
 -- The decimal text of a number is its numeral, and no other word is.
-use Rattle.std.proofs.Common.{◌≡◌, ℕ, zero, suc, ◌+◌, ◌*◌, ◌-◌, ◌^◌, ◌<◌, ◌≤◌, ◌/◌, ◌%◌, take, true, false, not, ◌==◌, List, []}
-use Rattle.std.proofs.Common.{◌∷◌, length, get_or, decimal, fold, ap, sym, refl, arith, rules, lit<, inl, inr}
+use Rattle.std.proofs.Common.{◌≡◌, ℕ, zero, suc, ◌+◌, ◌*◌, ◌-◌, ◌^◌, ◌<◌, ◌≤◌, ◌/◌, ◌%◌, take, true, false, not, ◌==◌}
+use Rattle.std.proofs.Common.{List, [], ◌∷◌, length, get_or, decimal, fold, ap, sym, refl, arith, rules, lit<, inl, inr}
 use Rattle.std.specs.Prelude.{Option, Some, None, IfNone}
 use Rattle.std.specs.List.{list_all}
 use Rattle.std.proofs.lemmas.Str.Parse.{IsNumeralModel, numerals_by_fold}
@@ -52,12 +52,15 @@ decimal_canonical (suc n) h =
           absurd (omega (arith, first_decimal (suc n) (omega arith) h));
     }
 
+-- the decimal text of a number is a numeral
 pub decimal-is_numeral : (n : ℕ) → n < 2 ^ 64 → is_numeral (decimal n) ≡ true
 decimal-is_numeral n h = and_from _ _ (canonical_from (decimal n) (decimal_canonical n h)) (digits_decimal own n h)
 
+-- the number of its decimal text is the number
 pub decimal-number_of : (n : ℕ) → n < 2 ^ 64 → number_of (decimal n) ≡ n
 decimal-number_of n h = digits_value-decimal own n h
 
+-- a numeral is the decimal text of its number
 pub decimal_of_number : (word : List ℕ) → is_numeral word ≡ true → number_of word < 2 ^ 64 →
     word ≡ decimal (number_of word)
 decimal_of_number word h small =
@@ -69,6 +72,7 @@ decimal_of_number word h small =
 pub no_numeral : (b : ℕ) (bs : List ℕ) → is_digit b ≡ false → is_numeral (b ∷ bs) ≡ false
 no_numeral b bs h = and_right _ _ (and_left _ _ h)
 
+-- the decimal text of a number is a row of digits
 pub decimal-is_digits : (n : ℕ) → n < 2 ^ 64 → is_digits (decimal n) ≡ true
 decimal-is_digits n h = and_from _ _ (lt-ltb _ _ (decimal_nonempty n h)) (digits_decimal own n h)
 
@@ -102,6 +106,7 @@ digits_of_any n =
     and_from _ _ (lt-ltb 0 (length (digits_onto 64 10 false n [])) (some_digits 64 n [] (omega arith)))
     (last_digits 64 n [] refl)
 
+-- it has no leading zero
 pub decimal-is_canonical : (n : ℕ) → n < 2 ^ 64 → is_canonical (decimal n) ≡ true
 decimal-is_canonical n h = canonical_from (decimal n) (decimal_canonical n h)
 
@@ -110,6 +115,7 @@ pub digits_decimal_of : (word : List ℕ) → is_digits word ≡ true → is_can
     word ≡ decimal (number_of word)
 digits_decimal_of word d c small = decimal_of_number word (and_from _ _ c (and_parts _ _ d).1) small
 
+-- a byte that is no digit begins no row of digits
 pub no_digits : (b : ℕ) (bs : List ℕ) → is_digit b ≡ false → is_digits (b ∷ bs) ≡ false
 no_digits b bs h = and_right _ _ (and_left _ _ h)
 
@@ -128,6 +134,7 @@ pub first_digits : (word : List ℕ) (i : ℕ) → i < length word →
     10 * number_of (take i word) + (get_or word i 0 - 48) ≤ number_of word
 first_digits word i h = digits_below 0 word i h
 
+-- what holds anyway holds where an option is None
 pub if_none : {A P : Type 0} (o : Option A) → P → IfNone o P
 if_none None p = p
 if_none (Some a) p = tt

@@ -15,6 +15,7 @@ use Rattle.am_syntax.proofs.Advancing.{bind_advances, bind_reached, if_reached, 
 use Rattle.am_syntax.proofs.Advancing.{seen_advances}
 use Rattle.am_syntax.proofs.Takes.{Takes-halves, Takes-none, Takes-nothing, Takes-then, Takes-words}
 
+-- values that were read alike are the same, and leave the same
 pub ok_is : {X : Type 0} (p q : X × Left) → ◌≡◌ {A = Read X} (Ok p) (Ok q) → p ≡ q
 ok_is p q e = cc
 
@@ -41,6 +42,7 @@ word_of_tokens : {X : Type 0} (judge : Word → Result X Cause) (ts : List Place
 word_of_tokens judge [] end x u e = absurd cc
 word_of_tokens judge (t ∷ ts) end x u e = (t.word, (settled_takes t ts end (judge t.word) x u e).0)
 
+-- a value that a judge gave is that of some word
 pub judged_word : {X : Type 0} (judge : Word → Result X Cause) (s : Left) (x : X) (u : Left) →
     judged judge s ≡ Ok (x, u) → (v : Word) × (judge v ≡ Ok x)
 unfolding judged
@@ -82,6 +84,7 @@ module _ {X : Type 0} (judge : Word → Result X Cause) (word : X → Word) (Goo
       ∙ ap (λ (us : List Placed). Ok (x, record { tokens = us; end = end })) tail
       ∙ ap (λ (e : ℕ). Ok (x, record { tokens = u.tokens; end = e })) p.same_end
 
+  -- a token is read exactly where a good value's word stands
   pub token_law : IsExact (token judge word Good) always
   unfolding judged
   token_law = record {
@@ -90,9 +93,11 @@ module _ {X : Type 0} (judge : Word → Result X Cause) (word : X → Word) (Goo
     advances = judged_advances judge;
   }
 
+-- words that are found to be equal are equal
 pub same_bytes : (a b : Word) → bytes_eq a b ≡ true → a ≡ b
 same_bytes a b h = (bytes_eq-Decides a b).0 h
 
+-- a word is found to be equal to itself
 pub bytes_eq-same : (a : Word) → bytes_eq a a ≡ true
 bytes_eq-same a = (bytes_eq-Decides a a).1 refl
 
@@ -108,11 +113,13 @@ key_law cause word = token_law (key_judge cause word) (λ _. word) (λ _. Unit {
     (λ v x e. (same_bytes v word (cond_ok (bytes_eq v word) tt (cause v) x e).0, tt))
     (λ x good. ap (λ b. cond b (Ok tt) (Err (cause word))) (bytes_eq-same word))
 
+-- a key word that was read was there
 pub key_takes : (cause : Word → Cause) (word : Word) (s t : Left) → (key_or cause word).read s ≡ Ok (tt, t) →
     Takes s (word ∷ []) t
 unfolding key_or
 key_takes cause word s t e = ((key_law cause word).takes s tt t e).0
 
+-- a key word that is there is read
 pub key_again : (cause : Word → Cause) (word : Word) (s t : Left) → Takes s (word ∷ []) t →
     (key_or cause word).read s ≡ Ok (tt, t)
 unfolding key_or
@@ -123,6 +130,7 @@ key_again cause word s t p = (key_law cause word).again s tt t tt p tt
 module _ {X Y : Type 0} {p : Piece X} {q : X → Piece Y} {May Then : Words → Type 0} (one : IsExact p May)
     (two : (x : X) → p.Good x → IsExact (q x) Then)
     (meets : (x : X) (y : Y) (rest : Words) → p.Good x → (q x).Good y → Then rest → May ((q x).spell y ++ rest)) where
+  -- one piece after another is read exactly where both are spelled so
   pub then_law : IsExact (p ▹ q) Then
   then_law = record {
     takes = λ s z u e.
@@ -144,7 +152,7 @@ module _ {X Y : Type 0} {p : Piece X} {q : X → Piece Y} {May Then : Words → 
         seen_advances (q x).read (λ y. (x, y)) (two x (one.takes s x t e).1).advances t);
   }
 
--- a piece behind a key word
+-- a piece after a key word
 pub keyed_law : {X : Type 0} {p : Piece X} {May : Words → Type 0} (cause : Word → Cause) (word : Word) → IsExact p May →
     IsExact (keyed_or cause word p) May
 keyed_law {p = p} cause word law = record {
@@ -216,6 +224,7 @@ module _ {X Y : Type 0} (cause : Cause) (stop : Cause × Left) where
   alike [] end e = let same : (Syntax, record { tokens = []; end = end }) ≡ stop = cc in ap Err same
   alike (t ∷ ts) end e = let same : (cause, record { tokens = t ∷ ts; end = end }) ≡ stop = cc in ap Err same
 
+  -- the refusals are the same
   pub refused_alike : (s : Left) → ◌≡◌ {A = Read X} (judged (λ _. Err cause) s) (Err stop) →
       ◌≡◌ {A = Read Y} (judged (λ _. Err cause) s) (Err stop)
   unfolding judged
@@ -235,6 +244,7 @@ one_more_law false law = record {
   advances = judged_advances (λ _. Err Count);
 }
 
+-- an optional piece is read exactly where its words stand, or where its key word doesn't
 pub optional_law : {X : Type 0} {p : Piece X} {May : Words → Type 0} (word : Word) → IsExact p May →
     IsExact (optional word p) (WithoutKey word May)
 optional_law {X = X} {p = p} {May = May} word law =
@@ -282,6 +292,7 @@ module _ {X Y : Type 0} {p : Piece X} {q : Piece Y} {May : Words → Type 0} (te
   abbrev right_read : Reader (X ⊎ Y)
   right_read = q.read >>= λ y. done (inr y)
 
+  -- a choice is read exactly where the test picks the piece that is spelled
   pub choice_law : IsExact (choice test p q) May
   choice_law = record {
     takes = λ s z u e. elim (cases_Bool (test (words s))) [

@@ -11,12 +11,14 @@ module _ {X : Type 0} (goes : Words → Bool) (read : List X → Reader X) (move
   abbrev step : ℕ → List X → Reader (List X)
   step n seen = read seen >>= λ x. repeat_in goes read n (seen ++ x ∷ [])
 
+  -- where the test fails, the list ends
   pub in_stops : (n : ℕ) (seen : List X) (s : Left) → goes (words s) ≡ false →
       repeat_in goes read n seen s ≡ Ok (seen, s)
   unfolding repeat_in
   in_stops zero seen s h = refl
   in_stops (suc n) seen s h = ap (λ b. cond b (step n seen s) (Ok (seen, s))) h
 
+  -- where the test holds, one more item is read
   pub in_goes : (n : ℕ) (seen : List X) (s : Left) → goes (words s) ≡ true →
       repeat_in goes read (suc n) seen s ≡ step n seen s
   unfolding repeat_in
@@ -43,6 +45,7 @@ module _ {X : Type 0} (goes : Words → Bool) (read : List X → Reader X) (move
         | inr stops ↦ in_stops (suc m) seen s stops ∙ sym (in_stops (suc n) seen s stops)
       ]
 
+  -- as many steps as there are tokens, and one more, do for the whole list
   pub opened : (s : Left) (r : Read (List X)) → repeat_from goes read [] s ≡ r →
       repeat_in goes read (suc (length s.tokens)) [] s ≡ r
   unfolding repeat_from
@@ -50,6 +53,7 @@ module _ {X : Type 0} (goes : Words → Bool) (read : List X → Reader X) (move
 
   -- ---- what a loop does
 
+  -- one item was read, and the others follow it
   pub repeat_more : (seen : List X) (s : Left) (x : X) (t : Left) → goes (words s) ≡ true → read seen s ≡ Ok (x, t) →
       repeat_from goes read seen s ≡ repeat_from goes read (seen ++ x ∷ []) t
   unfolding repeat_from
@@ -59,6 +63,7 @@ module _ {X : Type 0} (goes : Words → Bool) (read : List X → Reader X) (move
       ∙ ap (onward (λ x. repeat_in goes read (length s.tokens) (seen ++ x ∷ []))) e
       ∙ enough (length s.tokens) (suc (length t.tokens)) (seen ++ x ∷ []) t less (omega arith)
 
+  -- where the test fails, the list is what was seen
   pub repeat_stops : (seen : List X) (s : Left) → goes (words s) ≡ false → repeat_from goes read seen s ≡ Ok (seen, s)
   unfolding repeat_from
   repeat_stops seen s h = in_stops (suc (length s.tokens)) seen s h
@@ -75,11 +80,13 @@ module _ {X : Type 0} (goes : Words → Bool) (read : List X → Reader X) (move
       repeat_from goes read seen s ≡ whole → repeat_from goes read (seen ++ x ∷ []) t ≡ whole
   so_far_more seen s x t whole h e so_far = sym (repeat_more seen s x t h e) ∙ so_far
 
+  -- a refused item refuses the whole
   pub so_far_fails : (seen : List X) (s : Left) (stop : Cause × Left) (whole : Read (List X)) → goes (words s) ≡ true →
       read seen s ≡ Err stop →
       repeat_from goes read seen s ≡ whole → whole ≡ Err stop
   so_far_fails seen s stop whole h is so_far = sym so_far ∙ repeat_fails seen s stop h is
 
+  -- where the test fails, what was seen is the whole
   pub so_far_done : (seen : List X) (s : Left) (whole : Read (List X)) → goes (words s) ≡ false →
       repeat_from goes read seen s ≡ whole → whole ≡ Ok (seen, s)
   so_far_done seen s whole h so_far = sym so_far ∙ repeat_stops seen s h

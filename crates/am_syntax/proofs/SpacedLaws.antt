@@ -30,7 +30,7 @@ pub spaced-word : (v : Word) (ws : Words) → bytes_eq v (codes "(") ≡ false �
 spaced-word v [] h = sym (append-nil v)
 spaced-word v (w ∷ ws) h = ap (λ b. v ++ (cond (b || bytes_eq w (codes ")")) [] (32 ∷ []) ++ spaced (w ∷ ws))) h
 
--- words that stand between spaces: other words follow behind a space, and so do they
+-- words that stand between spaces: other words follow after a space, and so do they
 pub record StandApart (us : Words) : Type 0 where
   pub before : (ws : Words) → spaced (us ++ ws) ≡ spaced us ++ after ws
   pub behind : (ws : Words) → after (us ++ ws) ≡ 32 ∷ spaced (us ++ ws)
@@ -42,14 +42,14 @@ word_apart v opens closes = record {
   behind = λ ws. ap (λ b. (cond b [] (32 ∷ [])) ++ spaced (v ∷ ws)) closes;
 }
 
--- behind words that stand apart comes a space, then other words that stand apart
+-- after words that stand apart comes a space, then other words that stand apart
 pub spaced_apart : (us vs : Words) → StandApart us → StandApart vs → spaced (us ++ vs) ≡ spaced us ++ (32 ∷ spaced vs)
 spaced_apart us vs one two =
     let alone : after vs ≡ 32 ∷ spaced vs =
     subst (λ (ws : Words). after ws ≡ 32 ∷ spaced ws) (append-nil vs) (two.behind []) in
     one.before vs ∙ ap (λ (bs : List ℕ). spaced us ++ bs) alone
 
--- words that stand apart, one row behind another, stand apart
+-- words that stand apart, one row after another, stand apart
 pub both_apart : (us vs : Words) → StandApart us → StandApart vs → StandApart (us ++ vs)
 both_apart us vs one two = record {
   before = λ ws.
@@ -94,11 +94,13 @@ name_opens op =
       | Ite ↦ refl
     ]
 
--- the text of each of a list, behind a space, where each is spelled by words
+-- the text of each of a list, after a space, where each is spelled by words
 module _ {A : Type 0} (words : A → Words) where
+  -- a space and the text of each
   abbrev pub each_text : List A → List ℕ
   each_text xs = flat_map (λ x. 32 ∷ spaced (words x)) xs
 
+  -- the words of each stand apart
   abbrev pub EachApart : List A → Type 0
   EachApart xs = AllByRecursion (λ x. StandApart (words x)) xs
 
@@ -113,7 +115,7 @@ module _ {A : Type 0} (words : A → Words) where
       ∙ ap (λ (bs : List ℕ). spaced (words x) ++ bs) (after_each xs h.1 ws)
       ∙ sym (append_assoc (spaced (words x)) (each_text xs) (after ws)))
 
-  -- each of a list, behind words that stand apart
+  -- each of a list, after words that stand apart
   pub spaced_each : (us : Words) (xs : List A) → StandApart us → EachApart xs →
       spaced (us ++ flat_map words xs) ≡ spaced us ++ each_text xs
   spaced_each us xs one each =
@@ -124,7 +126,7 @@ module _ {A : Type 0} (words : A → Words) where
   abbrev tail_words : List A → Words
   tail_words xs = flat_map words xs ++ codes ")" ∷ []
 
-  -- an operator at each of a list, and what stands behind it
+  -- an operator at each of a list, and what stands after it
   node_then : (op : Op) (xs : List A) → EachApart xs → (ws : Words) →
       spaced (codes "(" ∷ op_name op ∷ (tail_words xs ++ ws)) ≡
       codes "(" ++ (op_name op ++ (each_text xs ++ (codes ")" ++ after ws)))
@@ -216,5 +218,6 @@ module _ (l : Letter) (scope : Scope) (is : IsScope scope) where
 pub text-Const : (letter c : ℕ) → term_text letter (Const c) ≡ decimal c
 text-Const letter c = ap spaced (words-Const letter c)
 
+-- the text of a variable is its letter and its number
 pub text-Field : (letter i : ℕ) → term_text letter (Field i) ≡ letter ∷ decimal i
 text-Field letter i = ap spaced (words-Field letter i)

@@ -6,9 +6,11 @@ use Rattle.am_text.specs.Tokens.{Left, Placed, words}
 use Rattle.am_syntax.specs.Exact.{Takes, words_in}
 use Rattle.am_syntax.specs.Readers.{Word, Words}
 
+-- no words, no token
 pub Takes-none : (s : Left) → Takes s [] s
 Takes-none s = record { front = []; split = refl; spelled = refl; same_end = refl }
 
+-- words after words are taken in turn
 pub Takes-then : (s : Left) (a : Words) (t : Left) (b : Words) (u : Left) → Takes s a t → Takes t b u →
     Takes s (a ++ b) u
 Takes-then s a t b u p q = record {
@@ -20,11 +22,13 @@ Takes-then s a t b u p q = record {
   same_end = p.same_end ∙ q.same_end;
 }
 
+-- what was left are the words that were taken, then those that are left
 pub Takes-words : (s : Left) (text : Words) (t : Left) → Takes s text t → words s ≡ text ++ words t
 Takes-words s text t p =
     ap words_in p.split ∙ map-append (λ (t : Placed). t.word) p.front t.tokens
     ∙ ap (λ (ws : Words). ws ++ words t) p.spelled
 
+-- the tokens are counted so
 pub Takes-length : (s : Left) (text : Words) (t : Left) → Takes s text t →
     length s.tokens ≡ length text + length t.tokens
 Takes-length s text t p =
@@ -64,6 +68,7 @@ pub record Halves (s : Left) (a b : Words) (u : Left) : Type 0 where
   pub first : Takes s a between
   pub second : Takes between b u
 
+-- words after words that were taken were taken in turn
 pub Takes-halves : (s : Left) (a b : Words) (u : Left) → Takes s (a ++ b) u → Halves s a b u
 Takes-halves s a b u p =
     let q = parts p.front a b p.spelled in
@@ -84,6 +89,7 @@ no_tokens : (ts : List Placed) → words_in ts ≡ [] → ts ≡ []
 no_tokens [] e = refl
 no_tokens (t ∷ ts) e = absurd cc
 
+-- where no word was taken, nothing changed
 pub Takes-nothing : (s t : Left) → Takes s [] t → s ≡ t
 Takes-nothing s t p =
     let split : s.tokens ≡ t.tokens =

@@ -386,6 +386,7 @@ module _ (scope : Scope) (is : IsScope scope) where
   inner (suc depth) room =
       law_by true (suc depth) room (λ deep. subst Law (let e : depth ≡ suc depth - 1 = omega arith in e) (inner depth))
 
+  -- a term is read exactly where one within the limits is spelled, alone or as an argument
   pub term_within_law : (inside : Bool) (depth room : ℕ) → IsExact (term_within scope inside depth room) always
   term_within_law inside depth room = law_by inside depth room (λ deep. inner (depth - 1))
 

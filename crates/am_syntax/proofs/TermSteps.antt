@@ -20,7 +20,7 @@ use Rattle.am_syntax.specs.Numerals.{is_digits, number_of}
 use Rattle.am_syntax.proofs.PieceLaws.{judged_word}
 use Rattle.am_syntax.proofs.TokenLaws.{chosen, cond_ok}
 
--- an argument behind those seen, of so many nodes together
+-- an argument after those seen, of so many nodes together
 abbrev pub argument : Scope → ℕ → ℕ → List Term → Reader Term
 argument scope depth room seen = term_at scope true depth (room - sum_by nodes seen)
 
@@ -28,16 +28,19 @@ argument scope depth room seen = term_at scope true depth (room - sum_by nodes s
 abbrev pub behind_op : (List Term → Reader Term) → Op → Reader Term
 behind_op argument op = times_from argument (arity op) [] >>= λ args. closing.read >>= λ _. done (Node op args)
 
+-- the closing parenthesis after an operator's arguments
 abbrev pub close_node : Op → List Term → Reader Term
 close_node op args = closing.read >>= λ _. done (Node op args)
 
 module _ (scope : Scope) (inside : Bool) where
+  -- where the first token is refused, the term is
   pub term_refused : (depth room : ℕ) (s : Left) (stop : Cause × Left) →
       judged (head_judge scope inside depth room) s ≡ Err stop → term_at scope inside depth room s ≡ Err stop
   unfolding term_at
   term_refused zero room s stop e = ap (onward (node_by (λ _. judged (λ _. Err Count)))) e
   term_refused (suc depth) room s stop e = ap (onward (node_by (argument scope depth (room - 1)))) e
 
+  -- a leaf is the whole term
   pub term_leaf : (depth room : ℕ) (s : Left) (t : Term) (left : Left) →
       judged (head_judge scope inside depth room) s ≡ Ok (Some t, left) →
       term_at scope inside depth room s ≡ Ok (t, left)
@@ -45,6 +48,7 @@ module _ (scope : Scope) (inside : Bool) where
   term_leaf zero room s t left e = ap (onward (node_by (λ _. judged (λ _. Err Count)))) e
   term_leaf (suc depth) room s t left e = ap (onward (node_by (argument scope depth (room - 1)))) e
 
+  -- an opening parenthesis is followed by an operator's name and its arguments
   pub term_node : (depth room : ℕ) (s left : Left) → 0 < depth →
       judged (head_judge scope inside depth room) s ≡ Ok (None, left) →
       term_at scope inside depth room s ≡ (operator.read >>= behind_op (argument scope (depth - 1) (room - 1))) left
@@ -55,7 +59,7 @@ module _ (scope : Scope) (inside : Bool) where
       ap (onward (node_by (argument scope depth (room - 1)))) e
       ∙ ap (λ d. (operator.read >>= behind_op (argument scope d (room - 1))) left) k
 
-  -- a term that is an operator's, behind the operator's name
+  -- a term that is an operator's, after the operator's name
   pub term_behind : (depth room : ℕ) (s left : Left) (head : Option Term) →
       judged (head_judge scope inside depth room) s ≡ Ok (head, left) → head ≡ None → 0 < depth →
       (op : Op) (next : Left) → operator.read left ≡ Ok (op, next) → (n : ℕ) → n ≡ arity op →
@@ -66,6 +70,7 @@ module _ (scope : Scope) (inside : Bool) where
       ∙ ap (onward (behind_op (argument scope (depth - 1) (room - 1)))) read
       ∙ ap (λ m. onward (close_node op) (times_from (argument scope (depth - 1) (room - 1)) m [] next)) (sym count)
 
+-- the sum of one item
 pub sum_by-one : {A : Type 0} (f : A → ℕ) (x : A) → sum_by f (x ∷ []) ≡ f x
 sum_by-one f x = omega arith
 
@@ -96,6 +101,7 @@ module _ (scope : Scope) where
         ]
       ]
 
+  -- a leaf for which there is room
   pub within_some : (room : ℕ) (verdict : Result Term Cause) (t : Term) → within room verdict ≡ Ok (Some t) →
       (verdict ≡ Ok t) × (0 < room)
   within_some room (Ok u) t e =
@@ -109,6 +115,7 @@ module _ (scope : Scope) where
       ]
   within_some room (Err cause) t e = absurd cc
 
+  -- a first token that gives a term is a leaf, for which there is room
   pub head_some : (inside : Bool) (depth room : ℕ) (v : Word) (t : Term) →
       head_judge scope inside depth room v ≡ Ok (Some t) → (leaf_judge scope v ≡ Ok t) × (0 < room)
   head_some inside depth room v t e =
@@ -125,6 +132,7 @@ module _ (scope : Scope) where
             ]
       ]
 
+  -- it is one node
   pub head_is_one : (inside : Bool) (depth room : ℕ) (s : Left) (t : Term) (left : Left) →
       judged (head_judge scope inside depth room) s ≡ Ok (Some t, left) → nodes t ≡ 1
   head_is_one inside depth room s t left e =

@@ -25,6 +25,7 @@ pub words-Const : (letter c : ℕ) → term_words letter (Const c) ≡ decimal c
 unfolding term_words
 words-Const letter c = fold_at (term_words_step letter) (Const c) (Const-F c) (outs-Const c)
 
+-- a variable is one word: its letter and its number
 pub words-Field : (letter i : ℕ) → term_words letter (Field i) ≡ (letter ∷ decimal i) ∷ []
 unfolding term_words
 words-Field letter i = fold_at (term_words_step letter) (Field i) (Field-F i) (outs-Field i)
@@ -33,6 +34,7 @@ joined : {A : Type 0} (f : A → Words) (xs : List A) → flat_map (λ w. w) (ma
 joined f [] = refl
 joined f (x ∷ xs) = ap (λ ws. f x ++ ws) (joined f xs)
 
+-- an operator's term: parenthesis, name, the arguments' words, parenthesis
 pub words-Node : (letter : ℕ) (op : Op) (ts : List Term) →
     term_words letter (Node op ts) ≡ codes "(" ∷ op_name op ∷ (flat_map (term_words letter) ts ++ codes ")" ∷ [])
 unfolding term_words
@@ -45,10 +47,12 @@ pub nesting-Const : (c : ℕ) → nesting (Const c) ≡ 0
 unfolding nesting
 nesting-Const c = fold_at nesting_step (Const c) (Const-F c) (outs-Const c)
 
+-- a variable opens no parenthesis
 pub nesting-Field : (i : ℕ) → nesting (Field i) ≡ 0
 unfolding nesting
 nesting-Field i = fold_at nesting_step (Field i) (Field-F i) (outs-Field i)
 
+-- an operator nests one deeper than its deepest argument
 pub nesting-Node : (op : Op) (ts : List Term) → nesting (Node op ts) ≡ 1 + greatest (map nesting ts)
 unfolding nesting
 nesting-Node op ts = fold_at nesting_step (Node op ts) (Node-F op ts) (outs-Node op ts)
@@ -58,6 +62,7 @@ pub opened_op : (op : Op) (s t : Left) → Takes s (operator.spell op) t → Tak
 unfolding operator
 opened_op op s t p = p
 
+-- the word of an operator's name spells the operator
 pub closed_op : (op : Op) (s t : Left) → Takes s (op_name op ∷ []) t → Takes s (operator.spell op) t
 unfolding operator
 closed_op op s t p = p
@@ -75,14 +80,17 @@ pub letter_digit : (l : Letter) → is_digit (letter_code l) ≡ false
 letter_digit X = refl
 letter_digit F = refl
 
+-- it is no capital letter
 pub letter_capital : (l : Letter) → is_capital (letter_code l) ≡ false
 letter_capital X = refl
 letter_capital F = refl
 
+-- no variable is an opening parenthesis
 pub letter_opens : (l : Letter) (v : Word) → bytes_eq (letter_code l ∷ v) (codes "(") ≡ false
 letter_opens X v = refl
 letter_opens F v = refl
 
+-- nor a closing one
 pub letter_closes : (l : Letter) (v : Word) → bytes_eq (letter_code l ∷ v) (codes ")") ≡ false
 letter_closes X v = refl
 letter_closes F v = refl

@@ -1,7 +1,7 @@
 -- The laws of single tokens: numerals, names, operators, domains.
-use Rattle.std.proofs.Common.{◌≡◌, ℕ, ◌^◌, ◌<◌, ◌≤◌, Bool, true, false, cond, ◌&&◌, nat_le, nat_lt, List, [], ◌∷◌, decimal}
-use Rattle.std.proofs.Common.{Option, Some, None, Result, Ok, Err, bytes_eq, find, ap, subst, ◌∙◌, sym, refl, inl, inr}
-use Rattle.std.proofs.Common.{arith, IsTrue}
+use Rattle.std.proofs.Common.{◌≡◌, ℕ, ◌^◌, ◌<◌, ◌≤◌, Bool, true, false, cond, ◌&&◌, nat_le, nat_lt, List, [], ◌∷◌}
+use Rattle.std.proofs.Common.{decimal, Option, Some, None, Result, Ok, Err, bytes_eq, find, ap, subst, ◌∙◌, sym, refl}
+use Rattle.std.proofs.Common.{inl, inr, arith, IsTrue}
 use Rattle.std.specs.Prelude.{◌⊎◌}
 use Rattle.std.proofs.lemmas.Bool.{and_from, and_parts, le-leb, leb-true, lt-ltb, ltb-true}
 use Rattle.am_bv.specs.declared.op.Op.{Op}
@@ -23,6 +23,7 @@ pub chosen : {A : Type 0} (b : Bool) (x y z : A) → cond b x y ≡ z → ((b �
 chosen true x y z e = inl (refl, e)
 chosen false x y z e = inr (refl, e)
 
+-- a value that a choice gave is the one of its first side
 pub cond_ok : {X : Type 0} (b : Bool) (x : X) (cause : Cause) (y : X) → cond b (Ok x) (Err cause) ≡ Ok y →
     (b ≡ true) × (x ≡ y)
 cond_ok true x cause y e = (refl, cc)
@@ -61,6 +62,7 @@ number_back least most small n range =
     (and_from _ _ (and_from _ _ (decimal-is_canonical n fits) low) high)
     ∙ ap (λ m. Ok m) number
 
+-- a number is read exactly where its decimal text stands, in the range
 pub number_law : (least most : ℕ) → most < 2 ^ 64 → IsExact (number least most) always
 unfolding number
 number_law least most small =
@@ -100,12 +102,14 @@ below_back least count small n range =
     (and_from _ _ (and_from _ _ (decimal-is_canonical n fits) low) high)
     ∙ ap (λ m. Ok m) number
 
+-- the same below a count
 pub below_law : (least count : ℕ) → count ≤ 2 ^ 64 → IsExact (below least count) always
 unfolding below
 below_law least count small =
     token_law (below_judge least count) decimal (IsBelow least count) (below_to least count small)
     (below_back least count small)
 
+-- a name is read exactly where it stands
 pub name_law : (cause : Word → Cause) → IsExact (name_or cause) always
 unfolding name_or
 name_law cause = token_law (name_judge cause) (λ v. v) (λ v. IsTrue (is_name v))
@@ -126,6 +130,7 @@ pub named_some : {X : Type 0} (o : Option X) (v : Word) (x : X) → named o v �
 named_some (Some y) v x e = cc
 named_some None v x e = absurd cc
 
+-- an operator's name names it
 pub op_named-name : (op : Op) → op_named (op_name op) ≡ Some op
 unfolding op_named
 op_named-name op =
@@ -159,6 +164,7 @@ op_of_name : (v : Word) (op : Op) → op_named v ≡ Some op → v ≡ op_name o
 unfolding op_named
 op_of_name v op e = sym (same_bytes (op_name op) v (found_passes (λ op. bytes_eq (op_name op) v) ALL op e))
 
+-- an operator is read exactly where its name stands
 pub operator_law : IsExact operator always
 unfolding operator
 operator_law = token_law operator_judge op_name (λ _. Unit {0})

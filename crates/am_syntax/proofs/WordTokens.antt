@@ -26,7 +26,7 @@ number_apart n =
     word_apart (decimal n) (digits_apart (decimal n) (codes "(") digits refl) (digits_apart (decimal n) (codes ")")
     digits refl)
 
--- a byte behind the parentheses and before the last of printable ASCII
+-- a byte after the parentheses and before the last of printable ASCII
 between_word : (b : ℕ) → 42 ≤ b → is_word_byte b ≡ true
 between_word b least =
     let space : (b == 32) ≡ false = ne_eqb b 32 (λ e. omega (arith, least, e)) in

@@ -1,4 +1,4 @@
--- Canonical texts: words with one space between two, but none behind an opening parenthesis nor before a closing one.
+-- Canonical texts: words with one space between two, but none after an opening parenthesis nor before a closing one.
 use Rattle.std.specs.Prelude.{◌≡◌, ℕ, ◌||◌, true, if◌then◌else◌, List, [], ◌∷◌, ◌++◌, bytes_eq, codes, flat_map, ◌⊎◌}
 use Rattle.std.specs.Prelude.{Result, Ok, Err}
 use Rattle.std.specs.List.{AllByRecursion, list_all}
@@ -11,12 +11,13 @@ use Rattle.am_syntax.specs.Spelling.{term_words}
 abbrev pub gap : Word → Word → List ℕ
 gap v w = if bytes_eq v (codes "(") || bytes_eq w (codes ")") then [] else 32 ∷ []
 
+-- the text of words
 abbrev pub spaced : Words → List ℕ
 spaced [] = []
 spaced (v ∷ []) = v
 spaced (v ∷ w ∷ ws) = v ++ (gap v w ++ spaced (w ∷ ws))
 
--- words behind one that opens nothing: a space first, but none before a closing parenthesis
+-- words after one that opens nothing: a space first, but none before a closing parenthesis
 abbrev pub after : Words → List ℕ
 after [] = []
 after (w ∷ ws) = (if bytes_eq w (codes ")") then [] else 32 ∷ []) ++ spaced (w ∷ ws)
@@ -38,6 +39,7 @@ pub record IsToken (v : Word) : Type 0 where
   pub shape : IsParenthesis v ⊎ IsWord v
   pub allowed : list_all is_allowed v ≡ true
 
+-- each word is such a token
 abbrev pub AreTokens : Words → Type 0
 AreTokens ws = AllByRecursion IsToken ws
 

@@ -1,4 +1,4 @@
--- What stands on a printed line behind its key word: words, numbers and terms.
+-- What stands on a printed line after its key word: words, numbers and terms.
 use Rattle.std.specs.Prelude.{All, Bool, ◌||◌, not, List, [], ◌∷◌, bytes_eq, codes, decimal, flat_map, map, IsTrue}
 use Rattle.std.specs.List.{AllByRecursion}
 use Rattle.am_syntax.specs.declared.lines.Entry.{Entry}
@@ -19,6 +19,7 @@ IsEntry (Bytes bs) = Unit {0}
 IsEntry (Term letter t) = FitsSomewhere t.now
 IsEntry (Terms letter ts) = All FitsSomewhere ts.now
 
+-- each of a line's entries may stand there
 abbrev pub AreEntries : List Entry → Type 0
 AreEntries entries = AllByRecursion IsEntry entries
 

@@ -10,6 +10,7 @@ use Rattle.am_syntax.specs.declared.refusal.Cause.TheVariants.{Syntax, Name}
 use Rattle.am_syntax.specs.Readers.{Word}
 use Rattle.am_syntax.specs.Pieces.{Piece, token}
 
+-- the name of an operator
 abbrev pub op_name : Op → Word
 op_name Not = codes "not"
 op_name Neg = codes "neg"
@@ -39,6 +40,7 @@ op_name Ite = codes "ite"
 unfoldable pub op_named : Word → Option Op
 op_named word = find (λ op. bytes_eq (op_name op) word) ALL
 
+-- whether the word names an operator
 abbrev pub is_op_name : Word → Bool
 is_op_name word = is_some (op_named word)
 
@@ -51,8 +53,10 @@ abbrev pub named : {X : Type 0} → Option X → Word → Result X Cause
 named (Some x) v = Ok x
 named None v = Err (no_name v)
 
+-- an operator's name
 abbrev pub operator_judge : Word → Result Op Cause
 operator_judge v = named (op_named v) v
 
+-- an operator by its name
 unfoldable pub operator : Piece Op
 operator = token operator_judge op_name (λ _. Unit {0})

@@ -9,6 +9,7 @@ use Rattle.am_syntax.specs.declared.refusal.Cause.TheVariants.{Syntax, Number, C
 use Rattle.am_syntax.specs.Numerals.{is_canonical, is_digits, is_name, number_of}
 use Rattle.am_syntax.specs.Readers.{Word, Words, Reader, done, ◌>>=◌, judged}
 
+-- how values are spelled, which of them are good, and what reads them
 pub record Piece (X : Type 0) : Type 1 where
   pub spell : X → Words
   pub Good : X → Type 0
@@ -20,6 +21,7 @@ pub record Piece (X : Type 0) : Type 1 where
 abbrev pub token : {X : Type 0} → (Word → Result X Cause) → (X → Word) → (X → Type 0) → Piece X
 token judge word Good = record { spell = λ x. word x ∷ []; Good = Good; read = judged judge }
 
+-- this word, and no other
 abbrev pub key_judge : (Word → Cause) → Word → Word → Result (Unit {0}) Cause
 key_judge cause word v = if bytes_eq v word then Ok tt else Err (cause v)
 
@@ -27,19 +29,23 @@ key_judge cause word v = if bytes_eq v word then Ok tt else Err (cause v)
 unfoldable pub key_or : (Word → Cause) → Word → Piece (Unit {0})
 key_or cause word = token (key_judge cause word) (λ _. word) (λ _. Unit {0})
 
+-- another token is against the syntax
 abbrev pub syntax : Word → Cause
 syntax v = Syntax
 
+-- a key word, in whose place another token is against the syntax
 abbrev pub key : Word → Piece (Unit {0})
 key word = key_or syntax word
 
+-- another token makes a wrong count
 abbrev pub count : Word → Cause
 count v = Count
 
--- the parenthesis behind the last argument of an operator
+-- the parenthesis after the last argument of an operator
 abbrev pub closing : Piece (Unit {0})
 closing = key_or count (codes ")")
 
+-- a canonical row of digits, for a number from least to most
 abbrev pub number_judge : ℕ → ℕ → Word → Result ℕ Cause
 number_judge least most v =
     if is_digits v
@@ -51,6 +57,7 @@ number_judge least most v =
 unfoldable pub number : ℕ → ℕ → Piece ℕ
 number least most = token (number_judge least most) decimal (λ n. (least ≤ n) × (n ≤ most))
 
+-- a canonical row of digits, for a number from least on and below count
 abbrev pub below_judge : ℕ → ℕ → Word → Result ℕ Cause
 below_judge least count v =
     if is_digits v
@@ -62,6 +69,7 @@ below_judge least count v =
 unfoldable pub below : ℕ → ℕ → Piece ℕ
 below least count = token (below_judge least count) decimal (λ n. (least ≤ n) × (n < count))
 
+-- a name
 abbrev pub name_judge : (Word → Cause) → Word → Result Word Cause
 name_judge cause v = if is_name v then Ok v else Err (cause v)
 
@@ -69,12 +77,13 @@ name_judge cause v = if is_name v then Ok v else Err (cause v)
 unfoldable pub name_or : (Word → Cause) → Piece Word
 name_or cause = token (name_judge cause) (λ v. v) (λ v. IsTrue (is_name v))
 
+-- a name, in whose place another token is against the syntax
 abbrev pub name : Piece Word
 name = name_or syntax
 
 -- ---- pieces of pieces
 
--- one piece behind another
+-- one piece after another
 infixr 10 ◌▹◌
 abbrev pub ◌▹◌ : {X Y : Type 0} → Piece X → (X → Piece Y) → Piece (X × Y)
 p ▹ q = record {
@@ -83,7 +92,7 @@ p ▹ q = record {
   read = p.read >>= λ x. (q x).read >>= λ y. done (x, y);
 }
 
--- a key word and a piece behind it, and why another token is refused in the key word's place
+-- a key word and a piece after it, and why another token is refused in the key word's place
 abbrev pub keyed_or : {X : Type 0} → (Word → Cause) → Word → Piece X → Piece X
 keyed_or cause word p = record {
   spell = λ x. word ∷ p.spell x;
@@ -91,10 +100,11 @@ keyed_or cause word p = record {
   read = (key_or cause word).read >>= λ _. p.read;
 }
 
+-- a key word and a piece after it; another token in the key word's place is against the syntax
 abbrev pub keyed : {X : Type 0} → Word → Piece X → Piece X
 keyed word p = keyed_or syntax word p
 
--- a piece and a key word behind it, and why another token is refused in the key word's place
+-- a piece and a key word after it, and why another token is refused in the key word's place
 abbrev pub closed_or : {X : Type 0} → (Word → Cause) → Word → Piece X → Piece X
 closed_or cause word p = record {
   spell = λ x. p.spell x ++ word ∷ [];
@@ -102,6 +112,7 @@ closed_or cause word p = record {
   read = p.read >>= λ x. (key_or cause word).read >>= λ _. done x;
 }
 
+-- a piece and a key word after it; another token in the key word's place is against the syntax
 abbrev pub closed : {X : Type 0} → Word → Piece X → Piece X
 closed word p = closed_or syntax word p
 
@@ -115,19 +126,22 @@ seen_as to from p = record {
 
 -- ---- what comes next decides
 
+-- whether the next token is this word
 abbrev pub next_is : Word → Words → Bool
 next_is word [] = false
 next_is word (v ∷ vs) = bytes_eq v word
 
+-- the words of an optional piece: none where its value is missing
 abbrev pub optional_spelled : {X : Type 0} → Word → Piece X → Option X → Words
 optional_spelled word p None = []
 optional_spelled word p (Some x) = word ∷ p.spell x
 
+-- a value that is there is good
 abbrev pub optional_good : {X : Type 0} → Piece X → Option X → Type 0
 optional_good p None = Unit {0}
 optional_good p (Some x) = p.Good x
 
--- a key word and a piece behind it, or nothing
+-- a key word and a piece after it, or nothing
 abbrev pub optional : {X : Type 0} → Word → Piece X → Piece (Option X)
 optional word p = record {
   spell = optional_spelled word p;
@@ -161,19 +175,22 @@ one_more may p = record {
 
 -- ---- lists, whose items see the items before them
 
+-- the words of items after those that were seen
 abbrev pub spelled_from : {X : Type 0} → (List X → Piece X) → List X → List X → Words
 spelled_from item seen [] = []
 spelled_from item seen (x ∷ xs) = (item seen).spell x ++ spelled_from item (seen ++ x ∷ []) xs
 
+-- each item is good after those before it
 abbrev pub good_from : {X : Type 0} → (List X → Piece X) → List X → List X → Type 0
 good_from item seen [] = Unit {0}
 good_from item seen (x ∷ xs) = (item seen).Good x × good_from item (seen ++ x ∷ []) xs
 
--- n items behind those that were seen
+-- n items after those that were seen
 unfoldable pub times_from : {X : Type 0} → (List X → Reader X) → ℕ → List X → Reader (List X)
 times_from item zero seen s = Ok (seen, s)
 times_from item (suc n) seen s = (item seen >>= λ x. times_from item n (seen ++ x ∷ [])) s
 
+-- n items, one after another
 abbrev pub times : {X : Type 0} → (List X → Piece X) → ℕ → Piece (List X)
 times item n = record {
   spell = spelled_from item [];
@@ -186,7 +203,7 @@ abbrev pub MovesOn : {X : Type 0} → (List X → Reader X) → Type 0
 MovesOn {X = X} item =
     (seen : List X) (s : Left) (x : X) (t : Left) → item seen s ≡ Ok (x, t) → length t.tokens < length s.tokens
 
--- items behind those that were seen, while a test of what is left says so, of at most n tokens
+-- items after those that were seen, while a test of what is left says so, of at most n tokens
 unfoldable pub repeat_in : {X : Type 0} → (Words → Bool) → (List X → Reader X) → ℕ → List X → Reader (List X)
 repeat_in goes item zero seen s = Ok (seen, s)
 repeat_in goes item (suc n) seen s =
@@ -196,6 +213,7 @@ repeat_in goes item (suc n) seen s =
 unfoldable pub repeat_from : {X : Type 0} → (Words → Bool) → (List X → Reader X) → List X → Reader (List X)
 repeat_from goes item seen s = repeat_in goes item (suc (length s.tokens)) seen s
 
+-- items, one after another, while a test of what is left says so
 abbrev pub repeat : {X : Type 0} → (Words → Bool) → (List X → Piece X) → Piece (List X)
 repeat goes item = record {
   spell = spelled_from item [];

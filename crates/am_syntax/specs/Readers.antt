@@ -6,26 +6,32 @@ use Rattle.am_syntax.specs.declared.refusal.Cause.TheVariants.{Syntax}
 use Rattle.am_syntax.specs.declared.refusal.Failure.{Failure}
 use Rattle.am_syntax.specs.declared.refusal.Failure.TheVariants.{Refused, NoMemory}
 
+-- the bytes of a token
 abbrev pub Word : Type 0
 Word = List ℕ
 
+-- tokens without their places
 abbrev pub Words : Type 0
 Words = List (List ℕ)
 
+-- a value and what is left, or a cause and what is left from the refused token on
 abbrev pub Read : Type 0 → Type 0
 Read X = Result (X × Left) (Cause × Left)
 
+-- from what is left, a value or a refusal
 abbrev pub Reader : Type 0 → Type 0
 Reader X = Left → Read X
 
+-- a value, without taking a token
 abbrev pub done : {X : Type 0} → X → Reader X
 done x s = Ok (x, s)
 
+-- what was read goes on to the next reader, and a refusal stays
 abbrev pub onward : {X Y : Type 0} → (X → Reader Y) → Read X → Read Y
 onward next (Ok p) = next p.0 p.1
 onward next (Err e) = Err e
 
--- one reader behind another
+-- one reader after another
 infixl 10 ◌>>=◌
 abbrev pub ◌>>=◌ : {X Y : Type 0} → Reader X → (X → Reader Y) → Reader Y
 (r >>= next) s = onward next (r s)
@@ -35,6 +41,7 @@ abbrev pub settled : {X : Type 0} → Placed → List Placed → ℕ → Result 
 settled t ts end (Ok x) = Ok (x, record { tokens = ts; end = end })
 settled t ts end (Err cause) = Err (cause, record { tokens = t ∷ ts; end = end })
 
+-- a judge's verdict on the first of these tokens; where there is none, the syntax wants one
 abbrev pub judged_in : {X : Type 0} → (Word → Result X Cause) → List Placed → ℕ → Read X
 judged_in judge [] end = Err (Syntax, record { tokens = []; end = end })
 judged_in judge (t ∷ ts) end = settled t ts end (judge t.word)
@@ -51,6 +58,7 @@ pub record Reached (old new : Left) : Type 0 where
   pub rest : new.tokens ≡ drop taken old.tokens
   pub same_end : new.end ≡ old.end
 
+-- what is left after a value or a refusal
 abbrev pub left_by : {X : Type 0} → Read X → Left
 left_by (Ok p) = p.1
 left_by (Err stop) = stop.1
@@ -71,7 +79,7 @@ abbrev pub Makes : {X Y : Type 0} → (X → Y) → Result X Failure → Left �
 Makes view (Ok x) old new reader = reader old ≡ Ok (view x, new)
 Makes view (Err e) old new reader = (cause : Cause) → e ≡ Refused cause → reader old ≡ Err (cause, new)
 
--- where a cursor stands behind a call that read ahead of it: where reading stopped, or still in its place where memory
+-- where a cursor stands after a call that read ahead of it: where reading stopped, or still in its place where memory
 -- was wanting
 abbrev pub follows : {X : Type 0} → Left → Left → Result X Failure → Left
 follows old ahead (Ok x) = ahead

@@ -14,6 +14,7 @@ abbrev pub letter_code : Letter → ℕ
 letter_code X = 120
 letter_code F = 102
 
+-- the words of a term's root over the words of its arguments
 abbrev pub term_words_step : ℕ → Term-F Words → Words
 term_words_step letter (Const c) = decimal c ∷ []
 term_words_step letter (Field i) = (letter ∷ decimal i) ∷ []
@@ -23,10 +24,12 @@ term_words_step letter (Node op words) = codes "(" ∷ op_name op ∷ (flat_map 
 unfoldable pub term_words : ℕ → Term → Words
 term_words letter t = fold-Term Words (term_words_step letter) t
 
+-- the greatest of the numbers, or 0
 abbrev pub greatest : List ℕ → ℕ
 greatest [] = 0
 greatest (n ∷ ns) = max n (greatest ns)
 
+-- how deep a term's root nests over its arguments
 abbrev pub nesting_step : Term-F ℕ → ℕ
 nesting_step (Const c) = 0
 nesting_step (Field i) = 0

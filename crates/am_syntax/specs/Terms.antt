@@ -26,6 +26,7 @@ variable_judge scope (b ∷ bs) =
     then Ok (Field (number_of bs))
     else Err Name
 
+-- whether the word begins with a capital letter
 abbrev pub begins_capital : Word → Bool
 begins_capital [] = false
 begins_capital (b ∷ bs) = is_capital b

@@ -12,6 +12,7 @@ use Rattle.am_syntax.specs.declared.refusal.ReadError.TheVariants.{Refused, NoMe
 use Rattle.am_syntax.specs.Pieces.{Piece}
 use Rattle.am_syntax.specs.Readers.{Read, Reader}
 
+-- a cause with the place of the token that it refuses
 abbrev pub refusal_at : Cause → ℕ → Refusal
 refusal_at cause.Syntax place = Syntax place
 refusal_at cause.Number place = Number place
@@ -50,15 +51,17 @@ pub record IsTextOf {X : Type 0} (p : Piece X) (text : List ℕ) (x : X) : Type 
   pub spelled : words_of text ≡ p.spell x
   pub good : p.Good x
 
--- nothing stands behind a text's value
+-- nothing stands after a text's value
 abbrev pub ended : {X : Type 0} → X → List Placed → Result X Refusal
 ended x [] = Ok x
 ended x (t ∷ ts) = Err (Syntax t.place)
 
+-- the value of a whole text, after which nothing stands, or the refusal with its place
 abbrev pub whole : {X : Type 0} → Read X → Result X Refusal
 whole (Ok x) = ended x.0 x.1.tokens
 whole (Err stop) = Err (refusal_at stop.0 (next_place stop.1))
 
+-- a text with a bad byte is refused there, and another one is read
 abbrev pub opened : {X : Type 0} → Piece X → List ℕ → Option ℕ → Result X Refusal
 opened p text (Some place) = Err (BadByte place)
 opened p text None = whole (p.read (text_left text))
@@ -67,11 +70,12 @@ opened p text None = whole (p.read (text_left text))
 unfoldable pub text_value : {X : Type 0} → Piece X → List ℕ → Result X Refusal
 text_value p text = opened p text (bad_byte text)
 
--- what was read, where nothing stands behind it, or a failure with the place where the cursor stands
+-- what was read, where nothing stands after it, or a failure with the place where the cursor stands
 abbrev pub ended_so : {X : Type 0} → X → List Placed → Result X ReadError
 ended_so x [] = Ok x
 ended_so x (t ∷ ts) = Err (Refused (Syntax t.place))
 
+-- the answer at the end of a text: a value is refused where something stands after it
 abbrev pub closed : {X : Type 0} → Left → Result X Failure → Result X ReadError
 closed left (Ok x) = ended_so x left.tokens
 closed left (Err (failure.Refused cause)) = Err (Refused (refusal_at cause (next_place left)))

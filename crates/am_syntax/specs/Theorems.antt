@@ -15,9 +15,11 @@ use Rattle.am_syntax.specs.Texts.{IsSettled, text_value}
 abbrev pub NumbersAreExact : Type 0
 NumbersAreExact = (least most : ℕ) → most < 2 ^ 64 → IsExact (number least most) always
 
+-- a name is read exactly where one is spelled
 abbrev pub NamesAreExact : Type 0
 NamesAreExact = IsExact name always
 
+-- an operator is read exactly where its name is spelled
 abbrev pub OperatorsAreExact : Type 0
 OperatorsAreExact = IsExact operator always
 

@@ -25,13 +25,13 @@ pub trait Item<'a> {
 
     ghost view: { Self.Value → Shown };
 
-    /// How an item is read behind those seen.
+    /// How an item is read after those seen.
     ghost reads: { Self → List Shown → Reader Shown };
 
     /// When an item can be read.
     ghost can: { Self → Type 0 };
 
-    /// Reads an item behind those seen.
+    /// Reads an item after those seen.
     ///
     /// # Errors
     ///

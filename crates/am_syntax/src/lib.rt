@@ -2,7 +2,7 @@
 //!
 //! A format is written twice, as a grammar and as code. The grammar is a *piece*
 //! (`specs/Pieces.antt`): how a value is spelled, which values are good, and how one is read from
-//! left to right. Pieces are put together from single tokens, one after the other, behind a key
+//! left to right. Pieces are put together from single tokens, one after the other, after a key
 //! word, so many of them, as many as follow, or by a choice, and each way of putting together has
 //! one law: what a piece reads is spelled so and is good, and what is good and spelled so is read.
 //! The code is one function for each line of the grammar, a straight line of `?`, over [`take`],
@@ -29,7 +29,7 @@
 //!
 //! For each way of putting pieces together one law is proved, once: what a piece reads is spelled
 //! so and is good; what is good and spelled so is read, where what follows may follow; and the tokens
-//! that are left behind a value, or from a refused token on, are the rest of those that were left.
+//! that are left after a value, or from a refused token on, are the rest of those that were left.
 //! [`take`], [`read_times`] and [`read_list`] answer exactly what the pieces read, for every judge
 //! and item. A refusal leaves the cursor at the refused token, and want of memory leaves it in its
 //! place; only an [`Item`] that finds no memory may leave its cursor anywhere, since [`read_times`] and

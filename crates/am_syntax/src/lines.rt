@@ -28,7 +28,7 @@ pub enum Entry<'a> {
     Terms(Letter, &'a [Term]),
 }
 
-/// Appends a word behind a space.
+/// Appends a word after a space.
 ///
 /// # Errors
 ///
@@ -40,7 +40,7 @@ pub fn print_word(out: &mut Writer, word: &[u8]) -> Result<(), AllocError>
     out.word(word)
 }
 
-/// Appends a number behind a space.
+/// Appends a number after a space.
 fn print_number(out: &mut Writer, n: u64) -> Result<(), AllocError>
     ensures { Appends result out.old out.new (32 ∷ decimal n) }
 {
@@ -48,7 +48,7 @@ fn print_number(out: &mut Writer, n: u64) -> Result<(), AllocError>
     out.number(u128::from(n))
 }
 
-/// Appends each number behind a space.
+/// Appends each number after a space.
 fn print_numbers(out: &mut Writer, numbers: &[u32]) -> Result<(), AllocError>
     ensures { Appends result out.old out.new (flat_map (λ n. 32 ∷ decimal n) numbers.now) }
 {
@@ -58,7 +58,7 @@ fn print_numbers(out: &mut Writer, numbers: &[u32]) -> Result<(), AllocError>
     Ok(())
 }
 
-/// Appends each byte as a number behind a space.
+/// Appends each byte as a number after a space.
 fn print_bytes(out: &mut Writer, bytes: &[u8]) -> Result<(), AllocError>
     ensures { Appends result out.old out.new (flat_map (λ b. 32 ∷ decimal b) bytes.now) }
 {
@@ -68,7 +68,7 @@ fn print_bytes(out: &mut Writer, bytes: &[u8]) -> Result<(), AllocError>
     Ok(())
 }
 
-/// Appends a term behind a space.
+/// Appends a term after a space.
 fn print_argument(out: &mut Writer, letter: Letter, term: &Term) -> Result<(), AllocError>
     requires { FitsSomewhere term.now }
     ensures { Appends result out.old out.new (32 ∷ term_text (letter_code letter) term.now) }
@@ -77,7 +77,7 @@ fn print_argument(out: &mut Writer, letter: Letter, term: &Term) -> Result<(), A
     print_term(out, letter, term)
 }
 
-/// Appends each term behind a space.
+/// Appends each term after a space.
 fn print_arguments(out: &mut Writer, letter: Letter, terms: &[Term]) -> Result<(), AllocError>
     requires { All FitsSomewhere terms.now }
     ensures { Appends result out.old out.new (flat_map (λ t. 32 ∷ term_text (letter_code letter) t) terms.now) }

@@ -9,7 +9,7 @@ use am_bv::Term;
 use am_text::Writer;
 use std::alloc::AllocError;
 
-/// Appends a term's canonical text: one space between two words, but none behind `(` nor before
+/// Appends a term's canonical text: one space between two words, but none after `(` nor before
 /// `)`.
 ///
 /// # Errors

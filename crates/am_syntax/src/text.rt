@@ -35,11 +35,11 @@ pub fn placed<T>(read: Result<T, Failure>, text: &Cursor<'_>) -> Result<T, ReadE
     }
 }
 
-/// What was read from a whole text, behind which nothing stands.
+/// What was read from a whole text, after which nothing stands.
 ///
 /// # Errors
 ///
-/// Why nothing was read, with the place of the refused token, or `Syntax` at a token behind the
+/// Why nothing was read, with the place of the refused token, or `Syntax` at a token after the
 /// value.
 pub fn close<T: Drop>(read: Result<T, Failure>, text: &Cursor<'_>) -> Result<T, ReadError>
     ensures { result ≡ closed text.now read }

@@ -40,7 +40,7 @@ impl<'a, 'w> Judge<'a> for Key<'w> {
     }
 }
 
-/// The parenthesis behind the last argument of an operator.
+/// The parenthesis after the last argument of an operator.
 #[derive(Clone, Copy)]
 pub struct Closing;
 
@@ -245,7 +245,7 @@ pub fn take_key(text: &mut Cursor<'_>, word: &[u8]) -> Result<(), Cause>
     take(text, &Key { word })
 }
 
-/// Takes a closing parenthesis behind the last argument of an operator.
+/// Takes a closing parenthesis after the last argument of an operator.
 #[tactic(auto, unfolding(crate::specs::Pieces::key_or))]
 pub fn take_closing(text: &mut Cursor<'_>) -> Result<(), Cause>
     ensures { Gives (λ _. tt) result text.old text.new closing.read }

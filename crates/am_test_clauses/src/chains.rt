@@ -1,6 +1,6 @@
 //! Chains and logs by example.
 
-ghost use Rattle.std.specs.Prelude.{◌≡◌, ◌+◌, ◌<◌, length, IfOk, OnOk, OnErr};
+ghost use Rattle.std.specs.Prelude.{◌≡◌, ◌+◌, ◌<◌, All, length, IfOk, OnOk, OnErr};
 ghost use Rattle.am_chain.specs.Checked.{all_clauses};
 
 use am_chain::{
@@ -30,7 +30,7 @@ fn formula_of(alloc: Global, vars: u32, pairs: &[(u32, u32)]) -> Result<Formula,
 }
 
 /// The four clauses over two variables that hold each variable once.
-fn four_clauses(alloc: Global) -> Result<Formula, Fail>
+pub fn four_clauses(alloc: Global) -> Result<Formula, Fail>
     ensures { IfOk result (λ f. length f.clauses ≡ 4) }
 {
     formula_of(alloc, 2, [(0, 2), (1, 2), (0, 3), (1, 3)].as_slice())
@@ -66,8 +66,9 @@ fn add(
 }
 
 /// The log of these chains of one step each: a first clause, a variable and the other clause.
-fn log_of(alloc: Global, rows: &[(u32, u32, u32)]) -> Result<Log, AllocError>
-    ensures { IfOk result (λ log. length log ≡ length rows.now) }
+pub fn log_of(alloc: Global, rows: &[(u32, u32, u32)]) -> Result<Log, AllocError>
+    ensures chains { IfOk result (λ log. length log ≡ length rows.now) }
+    ensures steps { IfOk result (λ log. All (λ chain. length chain.steps ≡ 1) log) }
 {
     let mut log = Log::new(alloc);
     for (first, variable, clause) in rows {

@@ -1,5 +1,5 @@
-//! Tests of clauses, chains, propagation and the solvers, and of circuits, grammars and templates, with values of an
-//! independent reference.
+//! Tests of clauses, chains, hints, propagation and the solvers, and of circuits, grammars and templates, with values
+//! of an independent reference.
 //!
 //! They stand apart from the crates that they test, since a crate with tests is proved twice, once with them and once
 //! without. They use public calls alone.
@@ -17,6 +17,8 @@ mod codes;
 mod gates;
 #[cfg(test)]
 mod grammars;
+#[cfg(test)]
+mod hints;
 #[cfg(test)]
 mod literals;
 #[cfg(test)]

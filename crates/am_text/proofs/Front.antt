@@ -1,5 +1,6 @@
--- The token in front of a text: behind spaces, a parenthesis or a word.
-use Rattle.std.proofs.Common.{◌≡◌, ℕ, suc, ◌+◌, ◌<◌, Bool, true, false, cond, List, [], ◌∷◌, ◌++◌, length, take, drop, ap, ◌∙◌, refl, sym, arith, ⊎_elim, ◌⊎◌, ◌==◌}
+-- The token in front of a text: after spaces, a parenthesis or a word.
+use Rattle.std.proofs.Common.{◌≡◌, ℕ, suc, ◌+◌, ◌<◌, Bool, true, false, cond, List, [], ◌∷◌, ◌++◌, length, take, drop}
+use Rattle.std.proofs.Common.{ap, ◌∙◌, refl, sym, arith, ⊎_elim, ◌⊎◌, ◌==◌}
 use Rattle.std.specs.Prelude.{reverse}
 use Rattle.std.specs.List.{prefix_len, suffix_len, list_all}
 use Rattle.std.proofs.lemmas.Bool.{cases_Bool, and_parts, eqb-true, not-true, or_cases}
@@ -11,13 +12,16 @@ use Rattle.am_text.proofs.Rows.{prefix_yes, prefix_no, prefix_zero, row_ends, ro
 
 -- ---- the first byte
 
+-- a space in front is in no token
 pub tokens_at-space : (at b : ℕ) (bs : List ℕ) → is_space b ≡ true → tokens_at at (b ∷ bs) ≡ tokens_at (at + 1) bs
 tokens_at-space at b bs h = rw h refl
 
+-- a parenthesis in front is a token of its own
 pub tokens_at-parenthesis : (at b : ℕ) (bs : List ℕ) → is_space b ≡ false → is_parenthesis b ≡ true →
     tokens_at at (b ∷ bs) ≡ placed at (b ∷ []) ∷ tokens_at (at + 1) bs
 tokens_at-parenthesis at b bs h k = rw (h, k) refl
 
+-- a byte of a word in front begins or extends the first token after it
 pub tokens_at-word : (at b : ℕ) (bs : List ℕ) → is_word_byte b ≡ true →
     tokens_at at (b ∷ bs) ≡ word_byte_before at b bs (tokens_at (at + 1) bs)
 tokens_at-word at b bs h =
@@ -25,10 +29,12 @@ tokens_at-word at b bs h =
     let parenthesis : is_parenthesis b ≡ false = not-true _ (and_parts _ _ h).1 in
     rw (space, parenthesis) refl
 
+-- a byte of a word before another one extends its word
 pub before_word : (at b c : ℕ) (cs : List ℕ) (t : Placed) (ts : List Placed) → is_word_byte c ≡ true →
     word_byte_before at b (c ∷ cs) (t ∷ ts) ≡ placed at (b ∷ t.word) ∷ ts
 before_word at b c cs t ts h = rw h refl
 
+-- a byte of a word before any other byte is a word of its own
 pub before_other : (at b c : ℕ) (cs : List ℕ) (ts : List Placed) → is_word_byte c ≡ false →
     word_byte_before at b (c ∷ cs) ts ≡ placed at (b ∷ []) ∷ ts
 before_other at b c cs [] h = refl
@@ -39,19 +45,24 @@ word_byte_is b h k = rw (h, k) refl
 
 -- ---- a byte is a space, a parenthesis or of a word
 
+-- each byte is a space, a parenthesis or of a word
 pub by_byte : {P : Type 0} (b : ℕ) → (is_space b ≡ true → P) → (is_space b ≡ false → is_parenthesis b ≡ true → P) →
     (is_word_byte b ≡ true → P) → P
 by_byte b at_space at_parenthesis at_word =
     ⊎_elim at_space
-    (λ (h : is_space b ≡ false). ⊎_elim (at_parenthesis h) (λ (k : is_parenthesis b ≡ false). at_word (word_byte_is b h k)) (cases_Bool (is_parenthesis b)))
+    (λ (h : is_space b ≡ false). ⊎_elim (at_parenthesis h)
+    (λ (k : is_parenthesis b ≡ false). at_word (word_byte_is b h k)) (cases_Bool (is_parenthesis b)))
     (cases_Bool (is_space b))
 
+-- a space is of no word
 pub space_no_word : (b : ℕ) → is_space b ≡ true → is_word_byte b ≡ false
 space_no_word b h = rw h refl
 
+-- a parenthesis is of no word
 pub parenthesis_no_word : (b : ℕ) → is_space b ≡ false → is_parenthesis b ≡ true → is_word_byte b ≡ false
 parenthesis_no_word b h k = rw (h, k) refl
 
+-- a byte of a word is no space
 pub word_no_space : (b : ℕ) → is_word_byte b ≡ true → is_space b ≡ false
 word_no_space b h = not-true _ (and_parts _ _ h).0
 
@@ -82,6 +93,7 @@ tokens_at-spaces at (b ∷ bs) =
 abbrev word_then : ℕ → ℕ → List ℕ → ℕ → List Placed
 word_then at b bs n = placed at (b ∷ take n bs) ∷ tokens_at (at + suc n) (drop n bs)
 
+-- a word in front goes as far as bytes of words do
 pub tokens_at-front : (at b : ℕ) (bs : List ℕ) → is_word_byte b ≡ true →
     tokens_at at (b ∷ bs) ≡ word_then at b bs (prefix_len is_word_byte bs)
 tokens_at-front at b [] h = tokens_at-word at b [] h
@@ -134,7 +146,7 @@ tokens_at-first at (b ∷ bs) long h =
     ∙ ap (λ t. token_then at (b ∷ bs) (len t)) (sym k))
     (cases_Bool (is_parenthesis b))
 
--- what stands behind the n spaces in front
+-- what stands after the n spaces in front
 abbrev Behind : List ℕ → ℕ → List ℕ → Type 0
 Behind bs n rest = (n ≡ prefix_len is_space bs) × (rest ≡ drop n bs)
 
@@ -142,6 +154,7 @@ tokens_at-behind : (at n : ℕ) (bs rest : List ℕ) → Behind bs n rest → to
 tokens_at-behind at n bs rest behind =
     tokens_at-spaces at bs ∙ ap (after at bs) (sym behind.0) ∙ ap (tokens_at (at + n)) (sym behind.1)
 
+-- the next token starts after the spaces in front, where bytes are left there
 pub tokens_at-next : (at n : ℕ) (bs rest : List ℕ) → Behind bs n rest → 0 < length rest →
     tokens_at at bs ≡ token_then (at + n) rest (token_len rest)
 tokens_at-next at n bs rest behind long =
@@ -149,6 +162,7 @@ tokens_at-next at n bs rest behind long =
     ∙ tokens_at-first (at + n) rest long
     (ap (prefix_len is_space) behind.1 ∙ ap (λ k. prefix_len is_space (drop k bs)) behind.0 ∙ row_ends is_space bs)
 
+-- spaces alone have no token
 pub tokens_at-none : (at n : ℕ) (bs rest : List ℕ) → Behind bs n rest → length rest ≡ 0 → tokens_at at bs ≡ []
 tokens_at-none at n bs [] behind none = tokens_at-behind at n bs [] behind
 tokens_at-none at n bs (b ∷ rest) behind none = absurd (omega arith)
@@ -159,7 +173,7 @@ tokens_at-none at n bs (b ∷ rest) behind none = absurd (omega arith)
 abbrev pub IsSeam : List ℕ → List ℕ → Type 0
 IsSeam xs ys = (suffix_len is_word_byte xs ≡ 0) ⊎ (prefix_len is_word_byte ys ≡ 0)
 
--- a word behind a seam begins there
+-- a word after a seam begins there
 pub seam_front : (xs : List ℕ) (y : ℕ) (ys : List ℕ) → is_word_byte y ≡ true → IsSeam xs (y ∷ ys) →
     suffix_len is_word_byte xs ≡ 0
 seam_front xs y ys h =
@@ -172,7 +186,8 @@ seam_back x ys h =
 
 -- a byte of no word ends no word
 pub suffix_none : (front : List ℕ) (b : ℕ) → is_word_byte b ≡ false → suffix_len is_word_byte (front ++ b ∷ []) ≡ 0
-suffix_none front b h = ap (prefix_len is_word_byte) (reverse-append front (b ∷ [])) ∙ prefix_no is_word_byte b (reverse front) h
+suffix_none front b h =
+    ap (prefix_len is_word_byte) (reverse-append front (b ∷ [])) ∙ prefix_no is_word_byte b (reverse front) h
 
 -- a parenthesis is no space
 pub parenthesis_is : (b : ℕ) → is_parenthesis b ≡ true → is_space b ≡ false

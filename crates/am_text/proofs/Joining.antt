@@ -1,11 +1,14 @@
 -- The words of joined texts are the words of the parts, where no word goes over the seam.
-use Rattle.std.proofs.Common.{◌≡◌, ℕ, ◌+◌, true, false, cond, List, [], ◌∷◌, ◌++◌, length, ap, ◌∙◌, refl, sym, arith, ⊎_elim, inl, inr, append-nil, map}
+use Rattle.std.proofs.Common.{◌≡◌, ℕ, ◌+◌, true, false, cond, List, [], ◌∷◌, ◌++◌, length, ap, ◌∙◌, refl, sym, arith}
+use Rattle.std.proofs.Common.{⊎_elim, inl, inr, append-nil, map}
 use Rattle.std.specs.Prelude.{reverse}
 use Rattle.std.specs.List.{prefix_len, suffix_len}
 use Rattle.std.proofs.lemmas.Bool.{cases_Bool}
 use Rattle.std.proofs.lemmas.List.{reverse-append, map-append}
-use Rattle.am_text.specs.Tokens.{Placed, placed, is_space, is_parenthesis, is_word_byte, tokens_at, word_byte_before, words_of, IsWord}
-use Rattle.am_text.proofs.Front.{tokens_at-space, tokens_at-parenthesis, tokens_at-word, tokens_at-front, tokens_at-whole, before_word, before_other, by_byte, IsSeam, seam_back}
+use Rattle.am_text.specs.Tokens.{Placed, placed, is_space, is_parenthesis, is_word_byte, tokens_at, word_byte_before}
+use Rattle.am_text.specs.Tokens.{words_of, IsWord}
+use Rattle.am_text.proofs.Front.{tokens_at-space, tokens_at-parenthesis, tokens_at-word, tokens_at-front}
+use Rattle.am_text.proofs.Front.{tokens_at-whole, before_word, before_other, by_byte, IsSeam, seam_back}
 use Rattle.am_text.proofs.Rows.{prefix_no, prefix_zero, row_none}
 
 -- ---- a byte of a word before joined texts
@@ -36,7 +39,8 @@ before_tokens at x c cs zs t ts us =
     (cases_Bool (is_word_byte c))
 
 before_joined : (at x : ℕ) (xs ys : List ℕ) (us : List Placed) → is_word_byte x ≡ true → IsSeam (x ∷ xs) ys →
-    word_byte_before at x (xs ++ ys) (tokens_at (at + 1) xs ++ us) ≡ word_byte_before at x xs (tokens_at (at + 1) xs) ++ us
+    word_byte_before at x (xs ++ ys) (tokens_at (at + 1) xs ++ us)
+    ≡ word_byte_before at x xs (tokens_at (at + 1) xs) ++ us
 before_joined at x [] ys us h seam = before_stop at x ys us (seam_back x ys h seam)
 before_joined at x (c ∷ cs) ys us h seam =
     ⊎_elim
@@ -51,6 +55,7 @@ before_joined at x (c ∷ cs) ys us h seam =
 
 -- ---- joined texts
 
+-- joined texts have the tokens of the first and then those of the second, at their places in the whole
 pub tokens_at-append : (at : ℕ) (xs ys : List ℕ) → IsSeam xs ys →
     tokens_at at (xs ++ ys) ≡ tokens_at at xs ++ tokens_at (at + length xs) ys
 tokens_at-append at [] ys seam = ap (λ n. tokens_at n ys) (let e : at ≡ at + 0 = omega arith in e)
@@ -110,15 +115,18 @@ words_anywhere m n (b ∷ bs) =
 
 -- ---- the words of a text
 
+-- joined texts have the words of the first and then those of the second
 pub words_of-append : (xs ys : List ℕ) → IsSeam xs ys → words_of (xs ++ ys) ≡ words_of xs ++ words_of ys
 words_of-append xs ys seam =
     ap words_in (tokens_at-append 0 xs ys seam)
     ∙ map-append (λ t. t.word) (tokens_at 0 xs) (tokens_at (0 + length xs) ys)
     ∙ ap (λ ws. words_of xs ++ ws) (words_anywhere (0 + length xs) 0 ys)
 
+-- a space in front adds no word
 pub words_of-space : (b : ℕ) (bs : List ℕ) → is_space b ≡ true → words_of (b ∷ bs) ≡ words_of bs
 words_of-space b bs h = ap words_in (tokens_at-space 0 b bs h) ∙ words_anywhere (0 + 1) 0 bs
 
+-- a parenthesis in front is a word
 pub words_of-parenthesis : (b : ℕ) (bs : List ℕ) → is_space b ≡ false → is_parenthesis b ≡ true →
     words_of (b ∷ bs) ≡ (b ∷ []) ∷ words_of bs
 words_of-parenthesis b bs h k =

@@ -1,12 +1,15 @@
 -- The longest row of bytes in front of a list that pass a test.
-use Rattle.std.proofs.Common.{◌≡◌, ℕ, suc, ◌+◌, Bool, true, false, cond, List, [], ◌∷◌, ◌++◌, length, take, drop, ap, ◌∙◌, refl, sym, arith, ⊎_elim}
+use Rattle.std.proofs.Common.{◌≡◌, ℕ, suc, ◌+◌, Bool, true, false, cond, List, [], ◌∷◌, ◌++◌, length, take, drop, ap}
+use Rattle.std.proofs.Common.{◌∙◌, refl, sym, arith, ⊎_elim}
 use Rattle.std.specs.List.{prefix_len, list_all}
 use Rattle.std.proofs.lemmas.Bool.{cases_Bool, and_parts}
 
+-- a byte that passes makes the row in front one longer
 pub prefix_yes : (p : ℕ → Bool) (b : ℕ) (bs : List ℕ) → p b ≡ true →
     prefix_len p (b ∷ bs) ≡ suc (prefix_len p bs)
 prefix_yes p b bs h = ap (λ t. cond t (1 + prefix_len p bs) 0) h ∙ omega arith
 
+-- a byte that fails ends the row at once
 pub prefix_no : (p : ℕ → Bool) (b : ℕ) (bs : List ℕ) → p b ≡ false → prefix_len p (b ∷ bs) ≡ 0
 prefix_no p b bs h = ap (λ t. cond t (1 + prefix_len p bs) 0) h
 

@@ -1,12 +1,16 @@
 -- The tokens of a text are its parentheses and its longest rows of bytes of words, in order, and no byte is left out.
-use Rattle.std.proofs.Common.{◌≡◌, ℕ, suc, zero, ◌+◌, ◌<◌, ◌≤◌, true, false, List, [], ◌∷◌, ◌++◌, length, take, drop, ap, ◌∙◌, refl, sym, subst, arith, ⊎_elim, inl, inr, append_assoc, length-append, length-drop, take-append-drop, map, get_or}
+use Rattle.std.proofs.Common.{◌≡◌, ℕ, suc, zero, ◌+◌, ◌<◌, ◌≤◌, true, false, List, [], ◌∷◌, ◌++◌, length, take, drop}
+use Rattle.std.proofs.Common.{ap, ◌∙◌, refl, sym, subst, arith, ⊎_elim, inl, inr, append_assoc, length-append}
+use Rattle.std.proofs.Common.{length-drop, take-append-drop, map, get_or}
 use Rattle.std.specs.Prelude.{All, Bool, filter, not}
 use Rattle.std.specs.List.{prefix_len, suffix_len, concat}
 use Rattle.std.specs.List.Sorted.{IsStrictlyIncreasing}
 use Rattle.std.proofs.lemmas.Bool.{cases_Bool}
 use Rattle.std.proofs.lemmas.List.Folds.{length-prefix_len}
-use Rattle.am_text.specs.Tokens.{Placed, placed, is_space, is_parenthesis, is_word_byte, tokens_at, word_byte_before, IsTokenOf, AreTokensOf}
-use Rattle.am_text.proofs.Front.{tokens_at-space, tokens_at-parenthesis, tokens_at-word, tokens_at-front, by_byte, space_no_word, parenthesis_no_word, word_no_space, IsSeam, seam_front, suffix_none}
+use Rattle.am_text.specs.Tokens.{Placed, placed, is_space, is_parenthesis, is_word_byte, tokens_at, word_byte_before}
+use Rattle.am_text.specs.Tokens.{IsTokenOf, AreTokensOf}
+use Rattle.am_text.proofs.Front.{tokens_at-space, tokens_at-parenthesis, tokens_at-word, tokens_at-front, by_byte}
+use Rattle.am_text.proofs.Front.{space_no_word, parenthesis_no_word, word_no_space, IsSeam, seam_front, suffix_none}
 use Rattle.am_text.proofs.Rows.{row_passes, row_ends}
 
 -- ---- in order
@@ -106,7 +110,8 @@ word_in_whole : (front : List ℕ) (b : ℕ) (bs : List ℕ) → is_word_byte b 
     IsTokenOf (front ++ b ∷ bs) (placed (length front) (b ∷ take (prefix_len is_word_byte bs) bs))
 word_in_whole front b bs h cut =
     let n = prefix_len is_word_byte bs in
-    let split : front ++ b ∷ bs ≡ front ++ b ∷ (take n bs ++ drop n bs) = ap (λ xs. front ++ b ∷ xs) (sym (take-append-drop n bs)) in
+    let split : front ++ b ∷ bs ≡ front ++ b ∷ (take n bs ++ drop n bs) =
+    ap (λ xs. front ++ b ∷ xs) (sym (take-append-drop n bs)) in
     record {
       front = front;
       back = drop n bs;
@@ -115,7 +120,7 @@ word_in_whole front b bs h cut =
       whole = inr ((omega arith, rw h (row_passes is_word_byte bs)), (cut, row_ends is_word_byte bs));
     }
 
--- tokens of bytes behind a front are tokens of the whole
+-- tokens of bytes after a front are tokens of the whole
 abbrev InWhole : List ℕ → List ℕ → Type 0
 InWhole front bs = All (IsTokenOf (front ++ bs)) (tokens_at (length front) bs)
 
@@ -134,12 +139,14 @@ in_whole (suc fuel) front (b ∷ bs) h seam =
     let at = length front in
     let Tokens : List Placed → Type 0 = λ ts. All (IsTokenOf (front ++ b ∷ bs)) ts in
     let behind : is_word_byte b ≡ false → Tokens (tokens_at (at + 1) bs) = λ no.
-    moved front (b ∷ []) bs (at + 1) (omega arith) (in_whole fuel (front ++ b ∷ []) bs (omega arith) (inl (suffix_none front b no))) in
+    moved front (b ∷ []) bs (at + 1) (omega arith)
+    (in_whole fuel (front ++ b ∷ []) bs (omega arith) (inl (suffix_none front b no))) in
     by_byte b
     (λ space. subst Tokens (sym (tokens_at-space at b bs space)) (behind (space_no_word b space)))
     (λ space parenthesis.
     subst Tokens (sym (tokens_at-parenthesis at b bs space parenthesis))
-    (All-cons _ (placed at (b ∷ [])) _ (parenthesis_in_whole front b bs parenthesis) (behind (parenthesis_no_word b space parenthesis))))
+    (All-cons _ (placed at (b ∷ [])) _ (parenthesis_in_whole front b bs parenthesis)
+    (behind (parenthesis_no_word b space parenthesis))))
     (λ word.
     let n = prefix_len is_word_byte bs in
     let row = b ∷ take n bs in
@@ -152,6 +159,7 @@ in_whole (suc fuel) front (b ∷ bs) h seam =
     (All-cons _ (placed at row) _ (word_in_whole front b bs word (seam_front front b bs word seam))
     (subst (λ text. All (IsTokenOf text) (tokens_at (at + suc n) (drop n bs))) again rest)))
 
+-- the tokens read of a text are its tokens
 pub AreTokensOf-text : (text : List ℕ) → AreTokensOf text (tokens_at 0 text)
 AreTokensOf-text text = record {
   slices = in_whole (length text) [] text (omega arith) (inl refl);

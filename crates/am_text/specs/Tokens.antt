@@ -6,12 +6,15 @@ use Rattle.std.specs.List.Sorted.{IsStrictlyIncreasing}
 use Rattle.std.specs.Coded.{Coded, code_by, coded×, coded_ℕ, coded_list}
 use Rattle.std.proofs.Common.{refl}
 
+-- whether a byte is a space or a newline
 abbrev pub is_space : ℕ → Bool
 is_space b = b == 32 || b == 10
 
+-- whether a byte opens or closes
 abbrev pub is_parenthesis : ℕ → Bool
 is_parenthesis b = b == 40 || b == 41
 
+-- whether a byte is of a word: no space and no parenthesis
 abbrev pub is_word_byte : ℕ → Bool
 is_word_byte b = not (is_space b) && not (is_parenthesis b)
 
@@ -28,6 +31,7 @@ pub record Placed : Type 0 where
   pub place : ℕ
   pub word : List ℕ
 
+-- the token with this place and these bytes
 abbrev pub placed : ℕ → List ℕ → Placed
 placed place word = record { place = place; word = word }
 
@@ -55,6 +59,7 @@ pub record Left : Type 0 where
 abbrev pub text_left : List ℕ → Left
 text_left text = record { tokens = tokens_at 0 text; end = length text }
 
+-- the bytes of the tokens left
 abbrev pub words : Left → List (List ℕ)
 words left = map (λ t. t.word) left.tokens
 
@@ -62,10 +67,12 @@ words left = map (λ t. t.word) left.tokens
 abbrev pub words_of : List ℕ → List (List ℕ)
 words_of text = words (text_left text)
 
+-- the first element, if there is one
 abbrev pub first : {A : Type 0} → List A → Option A
 first [] = None
 first (x ∷ xs) = Some x
 
+-- the elements after the first
 abbrev pub rest : {A : Type 0} → List A → List A
 rest [] = []
 rest (x ∷ xs) = xs
@@ -75,6 +82,7 @@ abbrev pub place_or_end : List Placed → ℕ → ℕ
 place_or_end [] end = end
 place_or_end (t ∷ ts) end = t.place
 
+-- the place of the next token left, or of the end
 abbrev pub next_place : Left → ℕ
 next_place left = place_or_end left.tokens left.end
 
@@ -104,7 +112,7 @@ pub record AreTokensOf (text : List ℕ) (tokens : List Placed) : Type 0 where
   pub order : IsStrictlyIncreasing (map (λ t. t.place) tokens)
   pub complete : concat (map (λ t. t.word) tokens) ≡ filter (λ b. not (is_space b)) text
 
--- how the check keeps these records
+-- how the check keeps a token
 abbrev pub placed_code : Coded Placed
 placed_code = code_by (ℕ × List ℕ)
     (coded× coded_ℕ (coded_list coded_ℕ))
@@ -112,6 +120,7 @@ placed_code = code_by (ℕ × List ℕ)
     (λ p. record { place = p.0; word = p.1 })
     (λ _. refl)
 
+-- how the check keeps what is left
 abbrev pub left_code : Coded Left
 left_code = code_by (List Placed × ℕ)
     (coded× (coded_list placed_code) coded_ℕ)

@@ -74,7 +74,7 @@ fn token_len(bytes: &[u8]) -> usize
     }
 }
 
-/// The first token of bytes of which the first has this place, and the bytes behind it.
+/// The first token of bytes of which the first has this place, and the bytes after it.
 pub fn token_from(at: usize, bytes: &[u8]) -> Option<(Token<'_>, &[u8])>
     requires { at + length bytes.now < 2 ^ 64 }
     ensures none { IfNone result (tokens_at at bytes.now ≡ []) }

@@ -61,7 +61,7 @@ module _ (a : List ℕ) where
   unfolding test at
   after_same v w e le = fails_by (at v) (at w) v w (omega arith) (λ s. le)
 
--- a variable stays behind one that became more active
+-- a variable stays after one that became more active
 pub after_raised : (a b : List ℕ) (v w : ℕ) → comes_before a v w ≡ false → get_or b v 0 ≡ get_or a v 0
     → get_or a w 0 ≤ get_or b w 0 → comes_before b v w ≡ false
 unfolding test

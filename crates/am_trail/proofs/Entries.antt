@@ -14,9 +14,11 @@ use Rattle.am_trail.specs.inside.Places.{IsPlaced, variables}
 use Rattle.am_trail.specs.declared.entry.Entry.{Entry}
 use Rattle.am_trail.proofs.Placing as placing
 
+-- there are as many variables as entries
 pub length-variables : (entries : List Entry) → length (variables entries) ≡ length entries
 length-variables entries = length-map (literals entries) variable_of ∙ length-map entries (λ (e : Entry). e.literal)
 
+-- the variable at a place is that of the literal there
 pub variable_at : (entries : List Entry) (k : ℕ) → k < length entries
     → get_or (variables entries) k 0 ≡ variable_of (get_or (literals entries) k 0)
 variable_at entries k lt = get_or-map variable_of (literals entries) k 0 0
@@ -39,6 +41,7 @@ variables-push entries e = ap (map variable_of) (literals-push entries e)
 module _ (entries : List Entry) (places : List ℕ) (h : IsPlaced (variables entries) places) where
   module _ (e : Entry) (lt : variable_of e.literal < length places)
       (free : get_or places (variable_of e.literal) 0 ≡ 0) where
+    -- a free variable gets the place after all others
     pub put_placed : (n : ℕ) → n ≡ length entries + 1
         → IsPlaced (variables (entries ++ e ∷ [])) (set places (variable_of e.literal) n)
     put_placed n is =
@@ -46,6 +49,7 @@ module _ (entries : List Entry) (places : List ℕ) (h : IsPlaced (variables ent
         rw (count, variables-push entries e)
         (placing.placed_more (variables entries) places h (variable_of e.literal) lt free)
 
+    -- and there is room for it
     pub put_room : length entries + 1 ≤ length places
     put_room = omega (
       arith,
@@ -53,14 +57,17 @@ module _ (entries : List Entry) (places : List ℕ) (h : IsPlaced (variables ent
       length-variables entries,
     )
 
+  -- entries are at most as many as variables
   pub few : length entries ≤ length places
   few = omega (arith, placing.few (variables entries) places h, length-variables entries)
 
+  -- without the last entry its variable has no place, and the others keep theirs
   pub take_back : (rest : List Entry) (e : Entry) → entries ≡ rest ++ e ∷ []
       → IsPlaced (variables rest) (set places (variable_of e.literal) 0)
   take_back rest e is = placing.placed_less (variables rest) places (variable_of e.literal)
       (rw (is, variables-push rest e) at h)
 
+  -- the last entry's variable is one of the trail's
   pub last_below : (rest : List Entry) (e : Entry) → entries ≡ rest ++ e ∷ [] → variable_of e.literal < length places
   last_below rest e is =
       let there : Contains (variables entries) (variable_of e.literal) =

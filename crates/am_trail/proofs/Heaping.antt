@@ -78,6 +78,7 @@ module _ (acts row new : List ℕ) where
                 (over i p (omega (arith, s.count)) e a) upper)
           ]
 
+      -- the variable rises on from its parent's place
       pub rise_step : Rises acts new j
       rise_step = record { others = rise_others; children = rise_children }
 
@@ -113,6 +114,7 @@ module _ (acts row new : List ℕ) where
           rw up (along i k i j (s.others i a b) s.first
           (rw e at (h.others i p (omega (arith, s.count)) (omega arith) (λ same. ne (sym (sym e ∙ same))))))
 
+      -- the variable sinks on from its child's place
       pub sink_step : Sinks low acts new j
       sink_step = record { others = sink_others; children = sink_children }
 
@@ -148,14 +150,14 @@ head_first acts heap h (suc fuel) i lt inside = elim (same_or i 0) [
       (h i (omega arith) inside (omega arith)) (head_first acts heap h fuel (parent_of i) (omega arith) (omega arith))
 ]
 
--- a heap from behind a place on is one but for that place
+-- a heap from after a place on is one but for that place
 pub sinks_next : (acts heap : List ℕ) (k : ℕ) → IsHeapFrom (k + 1) acts heap → Sinks k acts heap k
 sinks_next acts heap k h = record {
   others = λ i p lt le ne. h i p lt (omega arith);
   children = λ i p lt e q le. absurd (omega arith);
 }
 
--- the children of the last places would stand behind them
+-- the children of the last places would stand after them
 pub heap_end : (acts heap : List ℕ) → IsHeapFrom (length heap / 2) acts heap
 heap_end acts heap = λ i p lt le. absurd (omega arith)
 

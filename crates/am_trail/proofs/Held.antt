@@ -87,9 +87,11 @@ module _ (row new places places' : List ℕ) (k j : ℕ) (h : IsPlaced row place
     held = held_alike places places' vars swap_alike;
   }
 
+-- a row that stayed was moved
 pub moved_none : (row places : List ℕ) → IsPlaced row places → IsMoved row places row places
 moved_none row places h = record { placed = h; count = refl; vars = refl; held = refl }
 
+-- one move after another is a move
 pub moved_trans : (a p b q c r : List ℕ) → IsMoved a p b q → IsMoved b q c r → IsMoved a p c r
 moved_trans a p b q c r h g = record {
   placed = g.placed;
@@ -102,15 +104,18 @@ moved_trans a p b q c r h g = record {
 -- a row with a hole, in which a variable stands in mind
 module _ (heap places : List ℕ) (k v : ℕ) (h : IsPlaced (set heap k v) (set places v (k + 1)))
     (lk : k < length heap) where
+  -- the other places stand as they did
   pub hole_at : (j : ℕ) → k ≢ j → get_or (set heap k v) j 0 ≡ get_or heap j 0
   hole_at j ne = get_or-set_other heap k j v 0 (λ e. ne (sym e))
 
+  -- the variables at the other places have a place
   pub hole_var : (j : ℕ) → k ≢ j → j < length heap → get_or heap j 0 < length places
   hole_var j ne lt = rw (hole_at j ne, length-set) at (h.each j (omega (arith, length-set heap k v))).0
 
   pub hole_self : v < length places
   hole_self = rw (get_or-set_same heap k v 0 lk, length-set) at (h.each k (omega (arith, length-set heap k v))).0
 
+  -- there are at most as many places as variables
   pub hole_few : length heap ≤ length places
   hole_few = omega (
     arith,
@@ -218,9 +223,11 @@ module _ (rest places : List ℕ) (v : ℕ) (h : IsPlaced (rest ++ v ∷ []) pla
         ]
   ]
 
+  -- the row without its head is placed, with the last variable there
   pub refilled : IsPlaced (set rest 0 v) (set (set places (get_or rest 0 0) 0) v 1)
   refilled = record { each = refilled_each; back = refilled_back }
 
+  -- the same variables are held as where the head alone lost its place
   pub refilled_held : placed_variables (set (set places (get_or rest 0 0) 0) v 1) ≡ placed_variables
       (set places (get_or rest 0 0) 0)
   refilled_held = held_alike (set places (get_or rest 0 0) 0) (set (set places (get_or rest 0 0) 0) v 1)
@@ -235,6 +242,7 @@ module _ (rest places : List ℕ) (v : ℕ) (h : IsPlaced (rest ++ v ∷ []) pla
           | inr ne ↦ ap (λ n. eqb n 0) (get_or-set_other (set places (get_or rest 0 0) 0) v u 1 0 ne)
         ]
 
+  -- only the new head may stand before its children
   pub refilled_sinks : (acts : List ℕ) → IsHeapFrom 0 acts (rest ++ v ∷ []) → Sinks 0 acts (set rest 0 v) 0
   refilled_sinks acts ordered = sinks_top acts (rest ++ v ∷ []) (set rest 0 v)
       (omega (arith, length-append rest (v ∷ []), length-set rest 0 v))

@@ -11,14 +11,17 @@ use Rattle.am_trail.specs.declared.entry.Entry.{Entry}
 use Rattle.am_trail.specs.Trails.{IsNext, Leads, upto}
 use Rattle.std.proofs.lemmas.List.{get_or-map}
 
+-- the levels of entries
 pub levels : List Entry → List ℕ
 levels entries = map (λ e. e.level) entries
 
+-- the level at a place is that of the entry there
 pub level_at : (es : List Entry) (k : ℕ) (x : Entry) → k < length es → x ≡ get_or es k x
     → get_or (levels es) k 0 ≡ x.level
 unfolding levels
 level_at es k x lt is = get_or-map (λ (e : Entry). e.level) es k x 0 lt ∙ ap (λ (e : Entry). e.level) (sym is)
 
+-- one more entry leads on to its level
 pub Leads_push : (from : ℕ) (es : List Entry) (to : ℕ) (e : Entry) → Leads from es to → IsNext to e
     → Leads from (es ++ e ∷ []) e.level
 Leads_push from [] to e h n = (rw h n, refl)
@@ -28,6 +31,7 @@ next_le : (from : ℕ) (e : Entry) → IsNext from e → (from ≤ e.level) × (
 next_le from e (inl n) = (omega (arith, n.1), omega (arith, n.1))
 next_le from e (inr n) = (omega (arith, n.1), omega (arith, n.1))
 
+-- each entry leads at most one level higher
 pub Leads_le : (from : ℕ) (es : List Entry) (to : ℕ) → Leads from es to → to ≤ from + length es
 Leads_le from [] to h = omega arith
 Leads_le from (x ∷ xs) to h = omega (arith, (next_le from x h.0).1, Leads_le x.level xs to h.1)
@@ -80,6 +84,7 @@ prefix_upto level from (x ∷ xs) to (suc n) h le above last =
     rw passes (ap (λ r. x ∷ r) (prefix_upto level x.level xs to n h.1 (omega arith)
     (λ k lo hi. above (suc k) (omega arith) (omega arith)) (step_last x xs level n here)))
 
+-- of entries from above a level on, none stands up to it
 pub all_above : (level from : ℕ) (es : List Entry) (to : ℕ) → level < from → Leads from es to → upto level es ≡ []
 all_above level from es to lt h = none_upto level es (λ k in'. let more = rising from es to k h in' in omega arith)
 
@@ -106,6 +111,7 @@ Leads_upto level from (x ∷ xs) to h lo hi =
 pub fits_level : (level count vars n : ℕ) → level ≤ 0 + count → count + 1 ≤ vars → vars < n → level + 1 < n
 fits_level level count vars n a b c = omega arith
 
+-- the level at a place is that of the entry there, whatever stands beyond the end
 pub level_read : (es : List Entry) (k : ℕ) (d : Entry) → k < length es → get_or (levels es) k 0 ≡ (get_or es k d).level
 unfolding levels
 level_read es k d lt = get_or-map (λ (e : Entry). e.level) es k d 0 lt
@@ -158,6 +164,7 @@ fails a b h = grind (arith, nat_tests)
 pub in_upto : (level : ℕ) (es : List Entry) (e : Entry) → Contains es e → e.level ≤ level → Contains (upto level es) e
 in_upto level es e there le = Contains-filter (λ (x : Entry). nat_le x.level level) es e there (passes e.level level le)
 
+-- an entry up to a level is one of the entries, and not above the level
 pub from_upto : (level : ℕ) (es : List Entry) (e : Entry) → Contains (upto level es) e → Contains es e
     × (e.level ≤ level)
 from_upto level es e there =

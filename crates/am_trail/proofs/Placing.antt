@@ -78,6 +78,7 @@ module _ (row places : List ℕ) (h : IsPlaced row places) (v : ℕ) (lt : v < l
         (omega (arith, old.0, length-append row (v ∷ [])), old.1)
   ]
 
+  -- it gets the place after all others
   pub placed_more : IsPlaced (row ++ v ∷ []) (set places v (length row + 1))
   placed_more = record { each = more_each; back = more_back }
 
@@ -131,5 +132,6 @@ module _ (row places : List ℕ) (v : ℕ) (h : IsPlaced (row ++ v ∷ []) place
       let one : k ≡ length row = apart (row ++ v ∷ []) places h k (length row) (omega arith) (omega arith) same in
       omega arith
 
+  -- it has no place any more, and the others keep theirs
   pub placed_less : IsPlaced row (set places v 0)
   placed_less = record { each = less_each; back = less_back }

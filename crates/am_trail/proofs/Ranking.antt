@@ -30,6 +30,7 @@ from_passes (suc n) e z = absurd (omega arith)
 pub in_range : (n v : ℕ) → v < n → Contains (range_with_len 0 n) v
 in_range n v lt = (v, omega (arith, length-range_with_len 0 n), get_or-range_with_len 0 n v v lt ∙ zero-add v)
 
+-- a number in the range is below its end
 pub from_range : (n v : ℕ) → Contains (range_with_len 0 n) v → v < n
 from_range n v (k, lt, e) =
     let inside : k < n = omega (arith, length-range_with_len 0 n) in
@@ -62,6 +63,7 @@ module _ (places : List ℕ) where
       let long = length-range_with_len 0 n in
       rw (get_or-range_with_len 0 n k 0 (omega arith), get_or-range_with_len 0 n (k + 1) 0 (omega arith)) (omega arith)
 
+  -- the held variables stand in the order of their numbers, each once
   pub held_rises : IsStrictlyIncreasing (placed_variables places)
   held_rises = IsStrictlyIncreasing-filter (λ w. not (eqb (get_or places w 0) 0)) (range_with_len 0 (length places))
       rising
@@ -155,16 +157,19 @@ shown acts places = record { activities = acts; held = placed_variables places }
 
 -- what taking the head of the heap says of an order
 module _ (acts heap places new : List ℕ) (h : IsPlaced heap places) where
+  -- None is answered where no variable is held, and nothing changes
   pub taken_none : (r : Option ℕ) → IfNone r (heap ≡ []) → IfNone r (new ≡ places)
       → IfNone r ((placed_variables places ≡ []) × (shown acts new ≡ shown acts places))
   taken_none None empty same = (held_none heap places h empty, ap (shown acts) same)
   taken_none (Some v) empty same = tt
 
+  -- a variable that is answered comes first
   pub taken_first : (r : Option ℕ) → IsHeapFrom 0 acts heap → IfSome r (λ v. 0 < length heap)
       → IfSome r (λ v. get_or heap 0 0 ≡ v) → IfSome r (IsFirst (shown acts places))
   taken_first None ordered filled first = tt
   taken_first (Some v) ordered filled first = rw first at (head_is_first acts heap places h ordered filled)
 
+  -- and all others are held on
   pub taken_but : (r : Option ℕ) → IfSome r (λ v. 0 < length heap) → IfSome r (λ v. get_or heap 0 0 ≡ v)
       → IfSome r (λ v. placed_variables new ≡ placed_variables (set places v 0))
       → IfSome r (λ v. HoldsAllBut v (shown acts places) (shown acts new))
@@ -206,6 +211,7 @@ filter_all p (x ∷ xs) h = rw (h x (Contains-here x xs x refl))
 
 -- a row of all variables holds them all
 module _ (heap places : List ℕ) (h : IsPlaced heap places) (all : heap ≡ range_with_len 0 (length places)) where
+  -- all variables are held
   pub held_all : placed_variables places ≡ range_with_len 0 (length places)
   held_all = filter_all (λ v. not (eqb (get_or places v 0) 0)) (range_with_len 0 (length places)) pass where
     pass : (v : ℕ) → Contains (range_with_len 0 (length places)) v → not (eqb (get_or places v 0) 0) ≡ true
@@ -224,4 +230,5 @@ module _ (heap places : List ℕ) (h : IsPlaced heap places) (all : heap ≡ ran
         rises i j lt inside =
             let n = length places in
             let long : length heap ≡ n = ap length all ∙ length-range_with_len 0 n in
-            rw (all, get_or-range_with_len 0 n i 0 (omega arith), get_or-range_with_len 0 n j 0 (omega arith)) (omega arith)
+            rw (all, get_or-range_with_len 0 n i 0 (omega arith), get_or-range_with_len 0 n j 0 (omega arith))
+            (omega arith)

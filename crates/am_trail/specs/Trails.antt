@@ -1,6 +1,6 @@
 -- Trails: lists of decided and implied literals.
-use Rattle.std.specs.Prelude.{ℕ, ◌≡◌, ◌+◌, ◌≤◌, ◌<◌, ◌^◌, length, map, slice_index, List, [], ◌∷◌, None, filter, nat_le}
-use Rattle.std.specs.Prelude.{IsSome, ◌⊎◌}
+use Rattle.std.specs.Prelude.{ℕ, ◌≡◌, ◌+◌, ◌≤◌, ◌<◌, ◌^◌, length, map, slice_index, slice_index_or, List, [], ◌∷◌, ◌++◌}
+use Rattle.std.specs.Prelude.{None, Some, IsSome, filter, nat_le, min, ◌⊎◌, Contains}
 use Rattle.am_lit.specs.Literal.{variable_of}
 use Rattle.am_trail.specs.declared.entry.Entry.{Entry}
 
@@ -27,6 +27,35 @@ Leads from (e ∷ es) to = IsNext from e × Leads e.level es to
 -- the entries of the levels up to this one
 abbrev pub upto : ℕ → List Entry → List Entry
 upto level entries = filter (λ e. nat_le e.level level) entries
+
+-- a variable has a value
+abbrev pub HasValue : List Entry → ℕ → Type 0
+HasValue entries v = Contains (map variable_of (literals entries)) v
+
+-- the entry at a place
+abbrev pub IsEntryAt : List Entry → ℕ → Entry → Type 0
+IsEntryAt entries i e = (d : Entry) → e ≡ slice_index_or entries i d
+
+-- what is said of the entry of a variable, of which there is one at most
+abbrev pub OfVariable : List Entry → ℕ → (Entry → Type 0) → Type 0
+OfVariable entries v Says = (e : Entry) → Contains entries e → variable_of e.literal ≡ v → Says e
+
+-- the trail after a decision: one more literal, at a new level
+abbrev pub decided : Assigned → ℕ → Assigned
+decided t l =
+    let level = t.level + 1 in
+    record t { entries = t.entries ++ record { literal = l; level = level; reason = None } ∷ []; level = level }
+
+-- the trail after an implication: one more literal at the current level, with its reason
+abbrev pub implied : Assigned → ℕ → ℕ → Assigned
+implied t l reason =
+    record t { entries = t.entries ++ record { literal = l; level = t.level; reason = Some reason } ∷ [] }
+
+-- the trail after a return: the entries of the levels up to this one, and the head at most at their number
+abbrev pub returned : Assigned → ℕ → Assigned
+returned t level =
+    let entries = upto level t.entries in
+    record t { entries = entries; level = level; head = min t.head (length entries) }
 
 -- what is known of each trail
 pub record IsTrail (t : Assigned) : Type 0 where

@@ -123,16 +123,8 @@ pub fn push(heap: &mut Vec<u32>, places: &mut [u32], v: u32)
     ensures placed { IsPlaced heap.new.items places.new }
     ensures room { vec_capacity heap.old ≤ vec_capacity heap.new }
 {
-    push_within(heap, v);
+    heap.push_reserved(v);
     places[v as usize] = heap.len() as u32;
-}
-
-fn push_within(heap: &mut Vec<u32>, v: u32)
-    requires { vec_len heap.old < vec_capacity heap.old }
-    ensures heap { heap.new.items ≡ heap.old.items ++ v ∷ [] }
-    ensures room { vec_capacity heap.old ≤ vec_capacity heap.new }
-{
-    let _ = heap.push(v);
 }
 
 /// Puts a variable that isn't there in its place.

@@ -11,15 +11,6 @@ ghost use Rattle.am_trail.specs.declared.entry.Entry.{Entry};
 use crate::Entry;
 use crate::values::{Value, set_free};
 
-/// Appends an entry, for which there is room.
-fn push_within(entries: &mut Vec<Entry>, entry: Entry)
-    requires { vec_len entries.old < vec_capacity entries.old }
-    ensures entries { entries.new.items ≡ entries.old.items ++ entry ∷ [] }
-    ensures room { vec_capacity entries.old ≤ vec_capacity entries.new }
-{
-    let _ = entries.push(entry);
-}
-
 /// Appends an entry, and notes its place plus one at its variable.
 pub fn put(entries: &mut Vec<Entry>, places: &mut Vec<u32>, entry: Entry)
     requires placed { IsPlaced (variables entries.old.items) places.old.items }
@@ -33,7 +24,7 @@ pub fn put(entries: &mut Vec<Entry>, places: &mut Vec<u32>, entry: Entry)
     ensures len { vec_len places.new ≡ vec_len places.old }
 {
     let variable = entry.literal.variable() as usize;
-    push_within(entries, entry);
+    entries.push_reserved(entry);
     let place = entries.len() as u32;
     places[variable] = place;
 }

@@ -1,10 +1,11 @@
 //! The literals of an assignment, in the order in which they became true.
 
-ghost use Rattle.std.specs.Prelude.{map, ◌≡◌, ℕ, ◌+◌, ◌<◌, ◌≤◌, [], ◌∷◌, ◌++◌, length, take, min, IfOk, IfNone, IfSome};
-ghost use Rattle.std.specs.Prelude.{Some, None, Contains, IsTrue, ◌↔◌, if◌then◌else◌, slice_index, slice_index_or};
+ghost use Rattle.std.specs.Prelude.{◌≡◌, ℕ, ◌+◌, ◌<◌, ◌≤◌, [], length, take, IfOk, IfNone, IfSome};
+ghost use Rattle.std.specs.Prelude.{Contains, IsTrue, ◌↔◌, if◌then◌else◌, slice_index, slice_index_or};
 ghost use Rattle.am_lit.specs.Literal.{variable_of, opposite_of};
 ghost use Rattle.am_lit.specs.UnitRow.{IsFree};
-ghost use Rattle.am_trail.specs.Trails.{Assigned, IsTrail, Leads, literals, upto};
+ghost use Rattle.am_trail.specs.Trails.{Assigned, HasValue, IsEntryAt, IsTrail, Leads, OfVariable, decided, implied};
+ghost use Rattle.am_trail.specs.Trails.{literals, returned, upto};
 ghost use Rattle.am_trail.specs.declared.entry.Entry.{Entry};
 
 use crate::Entry;
@@ -92,10 +93,7 @@ impl Trail {
     pub fn decide(&mut self, l: Lit)
         requires variable { variable_of l < self.old.vars }
         requires free { IsFree (literals self.old.entries) l }
-        ensures { let level = self.old.level + 1 in self.new ≡ record self.old {
-          entries = self.old.entries ++ record { literal = l; level = level; reason = None } ∷ [];
-          level = level;
-        } }
+        ensures { self.new ≡ decided self.old l }
     {
         self.level += 1;
         let entry = Entry {
@@ -111,9 +109,7 @@ impl Trail {
     pub fn imply(&mut self, l: Lit, reason: u32)
         requires variable { variable_of l < self.old.vars }
         requires free { IsFree (literals self.old.entries) l }
-        ensures { self.new ≡ record self.old {
-          entries = self.old.entries ++ record { literal = l; level = self.old.level; reason = Some reason } ∷ [];
-        } }
+        ensures { self.new ≡ implied self.old l reason }
     {
         let entry = Entry {
             literal: l,
@@ -127,11 +123,7 @@ impl Trail {
     /// Takes back all levels above this one. The head is at most the new length.
     pub fn back_to(&mut self, level: u32)
         requires { level ≤ self.old.level }
-        ensures { let entries = upto level self.old.entries in self.new ≡ record self.old {
-          entries = entries;
-          level = level;
-          head = min self.old.head (length entries);
-        } }
+        ensures { self.new ≡ returned self.old level }
     {
         let len = count_upto(self.entries.as_slice(), level);
         keep_first(&mut self.entries, &mut self.places, &mut self.values, len);
@@ -163,7 +155,7 @@ impl Trail {
     /// The entry at a place, from 0.
     pub fn entry(&self, i: u32) -> Entry
         requires { i < length self.now.entries }
-        ensures { (d : Entry) → result ≡ slice_index_or self.now.entries i d }
+        ensures { IsEntryAt self.now.entries i result }
     {
         self.entries[i as usize]
     }
@@ -178,25 +170,23 @@ impl Trail {
 
     /// The level at which a variable got its value.
     pub fn level_of(&self, variable: u32) -> u32
-        requires { Contains (map variable_of (literals self.now.entries)) variable }
-        ensures { (e : Entry) → Contains self.now.entries e
-            → variable_of e.literal ≡ variable → result ≡ e.level }
+        requires { HasValue self.now.entries variable }
+        ensures { OfVariable self.now.entries variable (λ e. result ≡ e.level) }
     {
         entry_of(self.entries.as_slice(), self.places.as_slice(), variable).level
     }
 
     /// The clause that forced a variable's value, or None where it was decided.
     pub fn reason(&self, variable: u32) -> Option<u32>
-        requires { Contains (map variable_of (literals self.now.entries)) variable }
-        ensures { (e : Entry) → Contains self.now.entries e
-            → variable_of e.literal ≡ variable → result ≡ e.reason }
+        requires { HasValue self.now.entries variable }
+        ensures { OfVariable self.now.entries variable (λ e. result ≡ e.reason) }
     {
         entry_of(self.entries.as_slice(), self.places.as_slice(), variable).reason
     }
 
     /// The place of a variable that has a value.
     pub fn place(&self, variable: u32) -> u32
-        requires { Contains (map variable_of (literals self.now.entries)) variable }
+        requires { HasValue self.now.entries variable }
         ensures within { result < length self.now.entries }
         ensures at { variable_of (slice_index (literals self.now.entries) result) ≡ variable }
     {

@@ -1,5 +1,6 @@
 -- The lists of all trees have each tree that derives, and as many as are counted.
-use Rattle.std.proofs.Common.{◌≡◌, ℕ, zero, suc, ◌+◌, ◌*◌, List, [], ◌∷◌, ◌++◌, length, map, sum_by, inl, inr, ◌⊎◌, refl, sym, ◌∙◌, ap, subst, arith}
+use Rattle.std.proofs.Common.{◌≡◌, ℕ, zero, suc, ◌+◌, ◌*◌, List, [], ◌∷◌, ◌++◌, length, map, sum_by, inl, inr, ◌⊎◌}
+use Rattle.std.proofs.Common.{refl, sym, ◌∙◌, ap, subst, arith}
 use Rattle.std.specs.Prelude.{Contains, None, Option, Some, slice_get, slice_index_or}
 use Rattle.std.specs.List.{AllZip, flat_map}
 use Rattle.std.proofs.lemmas.List.{length-map}
@@ -43,7 +44,8 @@ module _ {X A : Type 0} where
       go (inr k) rest = has-tail (g y) (g x) (map g xs) (rest k)
 
   -- an item of the list that a function gives for an item is one of all these lists
-  has-flat_map : (f : X → List A) (xs : List X) (x : X) (a : A) → Contains xs x → Contains (f x) a → Contains (flat_map f xs) a
+  has-flat_map : (f : X → List A) (xs : List X) (x : X) (a : A) → Contains xs x → Contains (f x) a →
+      Contains (flat_map f xs) a
   has-flat_map f [] x a h k = absurd (has-none x h)
   has-flat_map f (y ∷ xs) x a h k = rw (flat_map-cons f y xs) (go (has-cases y x xs h) (λ l. has-flat_map f xs x a l k))
     where
@@ -82,12 +84,16 @@ module _ (rules : Rules) where
   by_production : (d k : ℕ) (p : Production) (t : Tree) → production_of t ≡ k →
       ((n : ℕ) (u : Tree) → Derives rules d n u → Contains (trees_of rules d n) u) →
       AreDerived (Derives rules d) (Some p) (children_of t) → Contains (trees_by (trees_of rules d) k p) t
-  by_production d k (Leaf u) t e below h = has-head t (tree k []) [] (ap (λ n. tree n []) (sym e) ∙ ap (tree (production_of t)) (sym h) ∙ tree-out t)
+  by_production d k (Leaf u) t e below h =
+      has-head t (tree k []) [] (ap (λ n. tree n []) (sym e) ∙ ap (tree (production_of t)) (sym h) ∙ tree-out t)
   by_production d k (Node op names) t e below h =
-      subst (Contains (map (tree k) (choices (map (trees_of rules d) names)))) (ap (λ n. tree n (children_of t)) (sym e) ∙ tree-out t)
-      (has-map (tree k) (choices (map (trees_of rules d) names)) (children_of t) (has-choices (trees_of rules d) names (children_of t) (each names (children_of t) h)))
+      subst (Contains (map (tree k) (choices (map (trees_of rules d) names))))
+      (ap (λ n. tree n (children_of t)) (sym e) ∙ tree-out t)
+      (has-map (tree k) (choices (map (trees_of rules d) names)) (children_of t)
+      (has-choices (trees_of rules d) names (children_of t) (each names (children_of t) h)))
     where
-      each : (ns : List ℕ) (us : List Tree) → AllZip (Derives rules d) ns us → AllZip (λ n u. Contains (trees_of rules d n) u) ns us
+      each : (ns : List ℕ) (us : List Tree) → AllZip (Derives rules d) ns us →
+          AllZip (λ n u. Contains (trees_of rules d n) u) ns us
       each [] [] h = h
       each [] (u ∷ us) h = h
       each (n ∷ ns) [] h = h
@@ -99,33 +105,43 @@ module _ (rules : Rules) where
   derived_are_listed zero n t h = absurd h
   derived_are_listed (suc d) n t h = go (production_at rules n (production_of t)) refl h (derived_are_listed d)
     where
-      go : (o : Option Production) → production_at rules n (production_of t) ≡ o → AreDerived (Derives rules d) o (children_of t) →
+      go : (o : Option Production) → production_at rules n (production_of t) ≡ o →
+          AreDerived (Derives rules d) o (children_of t) →
           ((m : ℕ) (u : Tree) → Derives rules d m u → Contains (trees_of rules d m) u) →
-          Contains (flat_map (λ q. trees_by (trees_of rules d) q.number q.production) (numbered 0 (slice_index_or rules n []))) t
+          Contains
+          (flat_map (λ q. trees_by (trees_of rules d) q.number q.production)
+          (numbered 0 (slice_index_or rules n [])))
+          t
       go None e h below = absurd h
       go (Some p) e h below =
           has-flat_map (λ q. trees_by (trees_of rules d) q.number q.production) (numbered 0 (slice_index_or rules n []))
           (at (production_of t) p) t
-          (subst (λ k. Contains (numbered 0 (slice_index_or rules n [])) (at k p)) (zero-add (production_of t)) (has-numbered 0 (production_of t) (slice_index_or rules n []) p e))
+          (subst (λ k. Contains (numbered 0 (slice_index_or rules n [])) (at k p)) (zero-add (production_of t))
+          (has-numbered 0 (production_of t) (slice_index_or rules n []) p e))
           (by_production d (production_of t) p t refl below h)
 
-  each_listed : (d : ℕ) (starts : List ℕ) (ts : List Tree) → AllZip (Derives rules d) starts ts → AllZip (λ n t. Contains (trees_of rules d n) t) starts ts
+  each_listed : (d : ℕ) (starts : List ℕ) (ts : List Tree) → AllZip (Derives rules d) starts ts →
+      AllZip (λ n t. Contains (trees_of rules d n) t) starts ts
   each_listed d [] [] h = h
   each_listed d [] (t ∷ ts) h = h
   each_listed d (n ∷ ns) [] h = h
   each_listed d (n ∷ ns) (t ∷ ts) h = (derived_are_listed d n t h.0, each_listed d ns ts h.1)
 
   -- each tuple of trees from the starts is listed
-  pub tuples_are_listed : (starts : List ℕ) (d : ℕ) (ts : List Tree) → AreTrees rules starts d ts → Contains (tuples_of rules starts d) ts
+  pub tuples_are_listed : (starts : List ℕ) (d : ℕ) (ts : List Tree) → AreTrees rules starts d ts →
+      Contains (tuples_of rules starts d) ts
   tuples_are_listed starts d ts h = has-choices (trees_of rules d) starts ts (each_listed d starts ts h)
 
 -- ---- how many there are
 
 sum-same : {X : Type 0} (f : X → ℕ) (xs : List X) (k : ℕ) → ((x : X) → f x ≡ k) → sum_by f xs ≡ length xs * k
 sum-same f [] k same = sym (zero-mul k)
-sum-same f (x ∷ xs) k same = sum_by-cons f x xs ∙ ap (λ n. n + sum_by f xs) (same x) ∙ ap (λ n. k + n) (sum-same f xs k same) ∙ omega (arith, suc-mul (length xs) k)
+sum-same f (x ∷ xs) k same =
+    sum_by-cons f x xs ∙ ap (λ n. n + sum_by f xs) (same x) ∙ ap (λ n. k + n) (sum-same f xs k same)
+    ∙ omega (arith, suc-mul (length xs) k)
 
-length-choices : {T : Type 0} (f : ℕ → List T) (names : List ℕ) → length (choices (map f names)) ≡ product_by (λ n. length (f n)) names
+length-choices : {T : Type 0} (f : ℕ → List T) (names : List ℕ) →
+    length (choices (map f names)) ≡ product_by (λ n. length (f n)) names
 length-choices f [] = refl
 length-choices f (n ∷ names) =
     length-flat_map (λ x. map (λ others. x ∷ others) (choices (map f names))) (f n)
@@ -134,7 +150,8 @@ length-choices f (n ∷ names) =
 
 product-same : (f g : ℕ → ℕ) (names : List ℕ) → ((n : ℕ) → f n ≡ g n) → product_by f names ≡ product_by g names
 product-same f g [] same = refl
-product-same f g (n ∷ names) same = ap (λ k. f n * k) (product-same f g names same) ∙ ap (λ k. k * product_by g names) (same n)
+product-same f g (n ∷ names) same =
+    ap (λ k. f n * k) (product-same f g names same) ∙ ap (λ k. k * product_by g names) (same n)
 
 module _ (rules : Rules) where
   count_by : (d k : ℕ) (p : Production) → ((n : ℕ) → length (trees_of rules d n) ≡ tree_count rules d n) →
@@ -146,11 +163,17 @@ module _ (rules : Rules) where
       ∙ product-same (λ n. length (trees_of rules d n)) (tree_count rules d) names same
 
   count_all : (d i : ℕ) (ps : List Production) → ((n : ℕ) → length (trees_of rules d n) ≡ tree_count rules d n) →
-      sum_by (λ (q : Numbered). length (trees_by (trees_of rules d) q.number q.production)) (numbered i ps) ≡ sum_by (production_count (tree_count rules d)) ps
+      sum_by (λ (q : Numbered). length (trees_by (trees_of rules d) q.number q.production)) (numbered i ps)
+      ≡ sum_by (production_count (tree_count rules d)) ps
   count_all d i [] same = refl
   count_all d i (p ∷ ps) same =
-      sum_by-cons (λ (q : Numbered). length (trees_by (trees_of rules d) q.number q.production)) (at i p) (numbered (i + 1) ps)
-      ∙ ap (λ n. n + sum_by (λ (q : Numbered). length (trees_by (trees_of rules d) q.number q.production)) (numbered (i + 1) ps)) (count_by d i p same)
+      sum_by-cons (λ (q : Numbered). length (trees_by (trees_of rules d) q.number q.production)) (at i p)
+      (numbered (i + 1) ps)
+      ∙ ap
+      (λ n. n
+      + sum_by (λ (q : Numbered). length (trees_by (trees_of rules d) q.number q.production))
+      (numbered (i + 1) ps))
+      (count_by d i p same)
       ∙ ap (λ n. production_count (tree_count rules d) p + n) (count_all d (i + 1) ps same)
       ∙ sym (sum_by-cons (production_count (tree_count rules d)) p ps)
 

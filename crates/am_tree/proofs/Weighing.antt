@@ -13,7 +13,8 @@ module _ (rules : Rules) (w : ℕ) where
       sum_by (λ i. weight_if w (production_at rules n i) + w) (map (λ (q : Numbered). q.number) qs) ≡ slot_weight w qs
   numbers-weigh below n [] are = refl
   numbers-weigh below n (q ∷ qs) are =
-      let one : weight_if w (production_at rules n q.number) ≡ production_weight w q.production = ap (weight_if w) are.0.at in
+      let one : weight_if w (production_at rules n q.number) ≡ production_weight w q.production =
+      ap (weight_if w) are.0.at in
       omega (
         arith,
         sum_by-cons (λ i. weight_if w (production_at rules n i) + w) q.number (map (λ (q : Numbered). q.number) qs),

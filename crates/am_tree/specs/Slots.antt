@@ -14,6 +14,7 @@ pub record Numbered : Type 0 where
   pub number : ℕ
   pub production : Production
 
+-- productions with their numbers, the first of which is given
 abbrev pub numbered : ℕ → List Production → List Numbered
 numbered i [] = []
 numbered i (p ∷ ps) = (record { number = i; production = p }) ∷ numbered (i + 1) ps
@@ -28,23 +29,27 @@ is_offered (suc below) (Node op names) = true
 abbrev pub offered_by : ℕ → List Production → List Numbered
 offered_by below ps = filter (λ p. is_offered below p.production) (numbered 0 ps)
 
+-- the productions that a nonterminal's slot has
 abbrev pub offered : Rules → ℕ → ℕ → List Numbered
 offered rules below n = offered_by below (slice_index_or rules n [])
 
 -- nonterminals at their positions among the arguments
 
+-- two arguments are one: the same nonterminal at the same position
 abbrev pub same : Argument → Argument → Bool
 same a b = (a.position == b.position) && (a.symbol == b.symbol)
 
+-- nonterminals as arguments, the first of which stands at a given position
 abbrev pub positioned : ℕ → List ℕ → List Argument
 positioned i [] = []
 positioned i (n ∷ ns) = (record { position = i; symbol = n }) ∷ positioned (i + 1) ns
 
+-- the arguments of a production: none of a leaf, else its nonterminals at their positions
 abbrev pub arguments : Production → List Argument
 arguments (Leaf t) = []
 arguments (Node op names) = positioned 0 names
 
--- those that are seen, and behind them each further one once, in order of first occurrence
+-- those that are seen, and after them each further one once, in order of first occurrence
 abbrev pub distinct : List Argument → List Argument → List Argument
 distinct seen [] = seen
 distinct seen (a ∷ rest) = distinct (if list_any (same a) seen then seen else seen ++ a ∷ []) rest
@@ -54,6 +59,7 @@ abbrev pub shared_by : ℕ → List Production → List Argument
 shared_by zero ps = []
 shared_by (suc below) ps = distinct [] (flat_map arguments ps)
 
+-- the children of a nonterminal's slot
 abbrev pub shared : Rules → ℕ → ℕ → List Argument
 shared rules below n = shared_by below (slice_index_or rules n [])
 
@@ -82,6 +88,7 @@ slot_by below level child n ps children = record {
       map (λ p. map (at_argument 0 children (counted child children)) (arguments p.production)) (offered_by below ps);
 }
 
+-- the slot of a nonterminal of the grammar
 abbrev pub slot_at : Rules → ℕ → ℕ → ℕ → ℕ → Slot
 slot_at rules below level child n = slot_by below level child n (slice_index_or rules n []) (shared rules below n)
 

@@ -13,12 +13,15 @@ use Rattle.am_tree.specs.declared.tree.Tree.TheOpen.{Tree-F}
 abbrev pub Rules : Type 0
 Rules = List (List Production)
 
+-- the production with this number of a nonterminal, if it has one
 abbrev pub production_at : Rules → ℕ → ℕ → Option Production
 production_at rules n p = slice_get (slice_index_or rules n []) p
 
+-- the number of the production at a tree's root
 abbrev pub production_of : Tree → ℕ
 production_of t = (out-Tree t).production
 
+-- the trees below a tree's root
 abbrev pub children_of : Tree → List Tree
 children_of t = (out-Tree t).children
 
@@ -49,6 +52,7 @@ term_by None children = Const 0
 term_by (Some (Leaf t)) children = t
 term_by (Some (Node op names)) children = NodeTerm op (terms_at names children)
 
+-- the term of a root, from what its children give at each nonterminal
 abbrev pub term_step : Rules → Tree-F (ℕ → Term) → ℕ → Term
 term_step rules t n = term_by (production_at rules n t.production) t.children
 

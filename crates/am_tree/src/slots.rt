@@ -71,7 +71,7 @@ pub fn shared(below: u32, productions: &[Production]) -> Children
     seen
 }
 
-/// Puts each argument of the production behind the others, if it isn't there yet.
+/// Puts each argument of the production after the others, if it isn't there yet.
 fn add_arguments(seen: &mut Children, production: &Production)
     requires short { length (arguments production.now) ≤ 3 }
     requires room { length seen.old.items + 3 ≤ 192 }
@@ -186,7 +186,7 @@ fn slot_of(
     })
 }
 
-/// Puts the slots of a level behind the others, where the next level begins with the number `child`.
+/// Puts the slots of a level after the others, where the next level begins with the number `child`.
 fn push_level(
     alloc: Global,
     slots: &mut Layout,
@@ -248,7 +248,7 @@ fn add_symbols(next: &mut Vec<u32>, children: &[Argument]) -> Result<(), AllocEr
     Ok(())
 }
 
-/// Puts the slots of a level and of those below it behind the others, numbered from `first` on.
+/// Puts the slots of a level and of those below it after the others, numbered from `first` on.
 fn push_slots(
     alloc: Global,
     slots: &mut Layout,

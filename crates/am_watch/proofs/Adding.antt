@@ -1,5 +1,6 @@
 -- Clauses that come to the watches.
-use Rattle.std.proofs.Common.{ℕ, ◌≡◌, ◌≢◌, ◌*◌, ◌<◌, ◌≤◌, List, [], ◌∷◌, ◌++◌, All, length, get_or, take, refl, inl}
+use Rattle.std.proofs.Common.{ℕ, ◌≡◌, ◌≢◌, ◌*◌, ◌<◌, ◌≤◌, List, [], ◌∷◌, ◌++◌, All, length, get_or, take, refl, sym}
+use Rattle.std.proofs.Common.{◌∙◌, inl}
 use Rattle.std.proofs.Common.{inr, arith, length-append, length-take}
 use Rattle.std.specs.Prelude.{OnErr, OnOk, Result, Ok, Err}
 use Rattle.std.proofs.lemmas.List.{get_or_append_left, get_or_past}
@@ -83,10 +84,12 @@ empty_holds lists vars codes empty = record {
   kept = λ i lt. absurd (omega arith);
 }
 
+-- the variables of a formula's clause are some of the formula's
 pub below_of : (clauses : List (List ℕ)) (vars i : ℕ) → IsFormula clauses vars → i < length clauses
     → All (λ l. variable_of l < vars) (get_or clauses i [])
 below_of clauses vars i normal lt = (All-get_or (IsNormal vars) clauses i [] lt normal).below
 
+-- the next clause has the number of pairs so far
 pub number_next : (pairs : List Pair) (clauses : List (List ℕ)) (i : ℕ) → length pairs ≡ length (take i clauses)
     → i < length clauses → i ≡ length pairs
 number_next pairs clauses i h lt = omega (arith, length-take i clauses)
@@ -97,18 +100,20 @@ same_parts a a' b b' c c' p q r = rw (p, q, r) refl
 
 -- what a call that adds a clause did
 module _ {A E : Type 0} (r : Result A E) (old new : Watched) (n : ℕ) (lists : new.lists ≡ old.lists) where
+  -- a call that adds a clause keeps the invariant with the clause among the fresh ones
   pub added : OnOk r (new.pairs ≡ old.pairs ++ no_pair ∷ []) → OnOk r (new.fresh ≡ old.fresh ++ n ∷ [])
-      → n ≡ length old.pairs → (c : List ℕ)
-      → OnOk r ((clauses : List (List ℕ)) (t : Assigned) → Holds old clauses t → All (λ l. variable_of l < t.vars) c
-      → Holds new (clauses ++ c ∷ []) t)
-  added pairs fresh is c = go r pairs fresh where
+      → (c : List ℕ)
+      → OnOk r ((clauses : List (List ℕ)) (t : Assigned) → Holds old clauses t → n ≡ length clauses
+      → All (λ l. variable_of l < t.vars) c → Holds new (clauses ++ c ∷ []) t)
+  added pairs fresh c = go r pairs fresh where
     go : (r : Result A E) → OnOk r (new.pairs ≡ old.pairs ++ no_pair ∷ []) → OnOk r (new.fresh ≡ old.fresh ++ n ∷ [])
-        → OnOk r ((clauses : List (List ℕ)) (t : Assigned) → Holds old clauses t → All (λ l. variable_of l < t.vars) c
-        → Holds new (clauses ++ c ∷ []) t)
-    go (Ok x) p f = λ clauses t h below. rw (lists, p, f)
-        (with_clause old.lists old.pairs old.fresh clauses t c n is h below)
+        → OnOk r ((clauses : List (List ℕ)) (t : Assigned) → Holds old clauses t → n ≡ length clauses
+        → All (λ l. variable_of l < t.vars) c → Holds new (clauses ++ c ∷ []) t)
+    go (Ok x) p f = λ clauses t h is below. rw (lists, p, f)
+        (with_clause old.lists old.pairs old.fresh clauses t c n (is ∙ sym h.numbers) h below)
     go (Err e) p f = tt
 
+  -- a call that finds no memory leaves the watches as they were
   pub refused : OnErr r (new.pairs ≡ old.pairs) → OnErr r (new.fresh ≡ old.fresh) → OnErr r (new ≡ old)
   refused pairs fresh = go r pairs fresh where
     go : (r : Result A E) → OnErr r (new.pairs ≡ old.pairs) → OnErr r (new.fresh ≡ old.fresh) → OnErr r (new ≡ old)

@@ -14,6 +14,7 @@ use Rattle.am_trail.specs.declared.entry.Entry.{Entry}
 use Rattle.am_trail.specs.Trails.{Assigned, literals}
 use Rattle.am_watch.specs.Watching.{clause_at, IsReason, IsExplained, Extends, IsTrueIn}
 
+-- entries that have their reasons have them with one more entry that has its own
 pub explained_more : (clauses : List (List ℕ)) (es : List Entry) (e : Entry) (from : ℕ)
     → IsReason clauses (literals es) e.literal e.reason → IsExplained from clauses es
     → IsExplained from clauses (es ++ e ∷ [])
@@ -38,6 +39,22 @@ explained_more clauses es e from reason h k d lo hi =
           rw (prior, here) reason
     ]
 
+-- entries that have their reasons have them in a trail that goes on, and so do the further ones
+pub explained_still : (clauses : List (List ℕ)) (t u : Assigned) → Extends clauses t u → (from : ℕ)
+    → IsExplained from clauses t.entries → IsExplained from clauses u.entries
+explained_still clauses t u x from h k d lo hi = elim (dec_lt k (length t.entries)) [
+  | yes lt ↦
+      let long = length-map t.entries (λ (x : Entry). x.literal) in
+      rw (
+        x.begins,
+        map-append (λ (x : Entry). x.literal) t.entries x.more,
+        take-append-le k (literals t.entries) (literals x.more) (omega arith),
+        get_or_append_left t.entries x.more d k lt,
+      ) (h k d lo lt)
+  | no ge ↦ x.explained k d (omega arith) hi
+]
+
+-- a trail goes on from itself
 pub Extends-refl : (clauses : List (List ℕ)) (t : Assigned) → Extends clauses t t
 Extends-refl clauses t = record {
   vars = refl;
@@ -45,9 +62,10 @@ Extends-refl clauses t = record {
   more = [];
   begins = sym (append-nil t.entries);
   implied = All-nil (λ e. IsSome e.reason × (e.level ≡ t.level));
-  explained = λ from h. h;
+  explained = λ k d lo hi. absurd (omega arith);
 }
 
+-- a trail goes on by a literal that a clause forces
 pub Extends-imply : (clauses : List (List ℕ)) (t : Assigned) (l r : ℕ) → r < length clauses
     → IsForcedBy (literals t.entries) (clause_at clauses r) l
     → Extends clauses t (record t {
@@ -63,9 +81,11 @@ Extends-imply clauses t l r lt forced =
       begins = refl;
       implied = All-cons (λ (e : Entry). IsSome e.reason × (e.level ≡ t.level)) e [] (search rules, refl)
           (All-nil (λ (e : Entry). IsSome e.reason × (e.level ≡ t.level)));
-      explained = λ from h. explained_more clauses t.entries e from (lt, forced) h;
+      explained =
+          explained_more clauses t.entries e (length t.entries) (lt, forced) (λ k d lo hi. absurd (omega arith));
     }
 
+-- what goes on from a trail that goes on goes on
 pub Extends-trans : (clauses : List (List ℕ)) (t u v : Assigned) → Extends clauses t u → Extends clauses u v
     → Extends clauses t v
 Extends-trans clauses t u v a b = record {
@@ -75,7 +95,7 @@ Extends-trans clauses t u v a b = record {
   begins = b.begins ∙ ap (λ r. r ++ b.more) a.begins ∙ append_assoc t.entries a.more b.more;
   implied = All-append (λ (e : Entry). IsSome e.reason × (e.level ≡ t.level)) a.more b.more a.implied
       (rw a.level at b.implied);
-  explained = λ from h. b.explained from (a.explained from h);
+  explained = explained_still clauses u v b (length t.entries) a.explained;
 }
 
 -- what stands in a trail stands in one that goes on from it
@@ -84,6 +104,7 @@ pub literal_still : (clauses : List (List ℕ)) (t u : Assigned) → Extends cla
 literal_still clauses t u x l h = rw (x.begins, map-append (λ (e : Entry). e.literal) t.entries x.more)
     (Contains-append_left (literals t.entries) (literals x.more) l h)
 
+-- a clause that is true stays true
 pub true_still : (clauses : List (List ℕ)) (t u : Assigned) → Extends clauses t u → (c : List ℕ) → IsTrueIn t.entries c
     → IsTrueIn u.entries c
 true_still clauses t u x c h = (h.0, h.1, literal_still clauses t u x h.0 h.2)

@@ -19,6 +19,7 @@ use Rattle.am_watch.specs.Watching.{clause_at, IsTrueUpTo, IsGuarded, IsSafe, Is
 use Rattle.am_lit.proofs.Laws.{opposite_of-opposite_of}
 use Rattle.am_trail.proofs.Laws.{entry_of, level_le, literal_in}
 use Rattle.am_watch.proofs.Parts.{Contains-take}
+use Rattle.am_watch.proofs.Still.{all_still, kept_still}
 
 -- a literal that isn't false is guarded
 pub guarded_open : (t : Assigned) (c : List ℕ) (l : ℕ) → ¬ (Contains (literals t.entries) (opposite_of l))
@@ -51,19 +52,8 @@ module _ (lists : List (List Watcher)) (pairs : List Pair) (fresh : List ℕ) (c
     queued = h.queued;
     watchers = λ m x there. elim (longer.within m x there) [ inl old ↦ h.watchers m x old | inr e ↦ rw e is ];
     in_range = h.in_range;
-    kept = λ i lt. elim (h.kept i lt) [
-      | inl f ↦ inl f
-      | inr safe ↦ inr (elim safe [
-        | inl k ↦ inl (record {
-          pair = k.pair;
-          first_listed = more (pair_at pairs i).first i k.first_listed;
-          second_listed = more (pair_at pairs i).second i k.second_listed;
-          first_guarded = k.first_guarded;
-          second_guarded = k.second_guarded;
-        })
-        | inr true' ↦ inr (true')
-      ])
-    ];
+    kept = λ i lt. all_still lists new t t (clause_at clauses i) i fresh (pair_at pairs i) (λ m a g. (more m i a, g))
+        (λ up. up) (h.kept i lt);
   } where
     more : (m i : ℕ) → IsListed lists m i → IsListed new m i
     more m i k = (k.0, longer.keeps m k.0 k.1, k.2)
@@ -92,7 +82,8 @@ module _ (lists : List (List Watcher)) (pairs : List Pair) (fresh : List ℕ) (c
                 get_or-set_same (list_at lists l) j w w place,
               ),
               sym (same old.0)
-                  ∙ ap (λ k. (get_or (list_at lists l) k old.0).clause) (sym at) ∙ ap (λ (x : Watcher). x.clause) there.2
+                  ∙ ap (λ k. (get_or (list_at lists l) k old.0).clause) (sym at)
+                  ∙ ap (λ (x : Watcher). x.clause) there.2
                   ∙ old.2,
             )
             | inr apart ↦ (
@@ -112,6 +103,7 @@ module _ (lists : List (List Watcher)) (pairs : List Pair) (fresh : List ℕ) (c
         let old = h.watchers l (get_or (list_at lists l) j w) (Contains-get_or (list_at lists l) j w place) in
         record { number = rw (same w) at old.number; blocker = blocks; pair = rw (same w) at old.pair }
 
+    -- a watcher with another blocker, which is a literal of its clause, keeps the invariant
     pub with_blocker : Keeps (set lists l row) pairs fresh clauses t
     with_blocker = record {
       numbers = h.numbers;
@@ -133,19 +125,8 @@ module _ (lists : List (List Watcher)) (pairs : List Pair) (fresh : List ℕ) (c
             ]
       ];
       in_range = h.in_range;
-      kept = λ i lt. elim (h.kept i lt) [
-        | inl f ↦ inl f
-        | inr safe ↦ inr (elim safe [
-          | inl k ↦ inl (record {
-            pair = k.pair;
-            first_listed = still (pair_at pairs i).first i k.first_listed;
-            second_listed = still (pair_at pairs i).second i k.second_listed;
-            first_guarded = k.first_guarded;
-            second_guarded = k.second_guarded;
-          })
-          | inr true' ↦ inr true'
-        ])
-      ];
+      kept = λ i lt. all_still lists (set lists l row) t t (clause_at clauses i) i fresh (pair_at pairs i)
+          (λ m a g. (still m i a, g)) (λ up. up) (h.kept i lt);
     }
 
   -- another pair for a clause
@@ -196,19 +177,10 @@ module _ (lists : List (List Watcher)) (pairs : List Pair) (fresh : List ℕ) (c
       | inr ne ↦ h.watchers m x (rw (shorter.others m ne) at there)
     ];
     in_range = h.in_range;
-    kept = λ k lt. elim (h.kept k lt) [
-      | inl f ↦ inl f
-      | inr safe ↦ inr (elim safe [
-        | inl w ↦ inl (record {
-          pair = w.pair;
-          first_listed = still (pair_at pairs k).first k w.first_listed (λ e same. first (rw e at same));
-          second_listed = still (pair_at pairs k).second k w.second_listed (λ e same. second (rw e at same));
-          first_guarded = w.first_guarded;
-          second_guarded = w.second_guarded;
-        })
-        | inr true' ↦ inr (true')
-      ])
-    ];
+    kept = λ k lt. kept_still lists new t t (clause_at clauses k) k fresh (pair_at pairs k)
+        (λ a g. (still (pair_at pairs k).first k a (λ e same. first (rw e at same)), g))
+        (λ a g. (still (pair_at pairs k).second k a (λ e same. second (rw e at same)), g))
+        (λ up. up) (h.kept k lt);
   } where
     still : (m k : ℕ) → IsListed lists m k → (k ≡ i → m ≢ l) → IsListed new m k
     still m k old apart = elim (same_or m l) [
@@ -250,19 +222,9 @@ module _ (lists : List (List Watcher)) (pairs : List Pair) (fresh : List ℕ) (c
         ];
     watchers = h.watchers;
     in_range = h.in_range;
-    kept = λ i lt. elim (h.kept i lt) [
-      | inl f ↦ inl f
-      | inr safe ↦ inr (elim safe [
-        | inl k ↦ inl (record {
-          pair = k.pair;
-          first_listed = k.first_listed;
-          second_listed = k.second_listed;
-          first_guarded = guarded (clause_at clauses i) (pair_at pairs i).first k.first_guarded;
-          second_guarded = guarded (clause_at clauses i) (pair_at pairs i).second k.second_guarded;
-        })
-        | inr true' ↦ inr ((true'.0, Contains-append_left t.entries (e ∷ []) true'.0 true'.1, true'.2, true'.3))
-      ])
-    ];
+    kept = λ i lt. all_still lists lists t (record t { entries = t.entries ++ e ∷ [] }) (clause_at clauses i) i fresh
+        (pair_at pairs i) (λ l a g. (a, guarded (clause_at clauses i) l g))
+        (λ up. (up.0, Contains-append_left t.entries (e ∷ []) up.0 up.1, up.2, up.3)) (h.kept i lt);
   } where
     guarded : (c : List ℕ) (l : ℕ) → IsGuarded t c l → IsGuarded (record t { entries = t.entries ++ e ∷ [] }) c l
     guarded c l g x there is =
@@ -282,19 +244,8 @@ module _ (lists : List (List Watcher)) (pairs : List Pair) (fresh : List ℕ) (c
         (Contains-tail here (drop (t.head + 1) t.entries) x there));
     watchers = h.watchers;
     in_range = h.in_range;
-    kept = λ i li. elim (h.kept i li) [
-      | inl f ↦ inl f
-      | inr safe ↦ inr (elim safe [
-        | inl k ↦ inl (record {
-          pair = k.pair;
-          first_listed = k.first_listed;
-          second_listed = k.second_listed;
-          first_guarded = guarded i (pair_at pairs i).first k.first_listed k.first_guarded;
-          second_guarded = guarded i (pair_at pairs i).second k.second_listed k.second_guarded;
-        })
-        | inr true' ↦ inr (true')
-      ])
-    ];
+    kept = λ i li. all_still lists lists t (record t { head = t.head + 1 }) (clause_at clauses i) i fresh
+        (pair_at pairs i) (λ l a g. (a, guarded i l a g)) (λ up. up) (h.kept i li);
   } where
     here : Entry
     here = get_or t.entries t.head d
@@ -337,7 +288,8 @@ module _ (lists : List (List Watcher)) (pairs : List Pair) (fresh : List ℕ) (c
             let up = g e.0 (rw (end, take_all (length t.entries) t.entries (omega arith)) e.1) e.2 in
             inl (up.0.literal, up.2, literal_in t.entries up.0 up.1)
 
-        settled : (c : List ℕ) (p : Pair) → IsPairOf c p → IsGuarded t c p.first → IsGuarded t c p.second → IsSettled row c
+        settled : (c : List ℕ) (p : Pair) → IsPairOf c p → IsGuarded t c p.first → IsGuarded t c p.second
+            → IsSettled row c
         settled c p is g k = elim (member_or row (opposite_of p.first)) [
           | inl f ↦ beside c p.first g f
           | inr first_open ↦ elim (member_or row (opposite_of p.second)) [

@@ -1,6 +1,7 @@
 pub mod Rows
 pub mod Open
 pub mod Parts
+pub mod Still
 pub mod Keeping
 pub mod Turning
 pub mod Extending

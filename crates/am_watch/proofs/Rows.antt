@@ -70,11 +70,13 @@ module _ {V : Type 0} (items : V → List Watcher) (rows : List V) (l : ℕ) (v 
   in_range : l < length (map items rows)
   in_range = omega (arith, length-map rows items)
 
+  -- a watcher that is pushed to its row comes to the list of the row's literal
   pub longer_at : (w : Watcher) (new : V) → items new ≡ items v ++ w ∷ []
       → IsLonger l w (map items rows) (map items (set rows l new))
   longer_at w new e = rw (map-set items rows l new)
       (longer (map items rows) l w (items new) in_range (e ∙ ap (λ r. r ++ w ∷ []) (sym row_there)))
 
+  -- a watcher that is swapped out of its row goes from the list of the row's literal
   pub shorter_at : (j n : ℕ) (new : V) → n ≡ length (items v) → j < length (list_at (map items rows) l)
       → length (items new) + 1 ≡ n
       → ((d : Watcher) → j + 1 < n → get_or (items new) j d ≡ get_or (items v) (n - 1) d)
@@ -87,6 +89,7 @@ module _ {V : Type 0} (items : V → List Watcher) (rows : List V) (l : ℕ) (v 
       ∙ ap (λ m. get_or (list_at (map items rows) l) (m - 1) d) same)
       (λ k d ne lt. rest k d ne (omega arith) ∙ ap (λ r. get_or r k d) (sym row_there)))
 
+  -- a watcher that is replaced in its row is replaced in the list of the row's literal
   pub replaced_at : (j : ℕ) (w : Watcher) (new : V) → items new ≡ set (items v) j w
       → map items (set rows l new) ≡ set (map items rows) l (set (list_at (map items rows) l) j w)
   replaced_at j w new e = map-set items rows l new
@@ -96,6 +99,7 @@ module _ {V : Type 0} (items : V → List Watcher) (rows : List V) (l : ℕ) (v 
 module _ {X : Type 0} (old row : List X) (j n : ℕ) (is : n ≡ length old) (in' : j < n) (short : length row + 1 ≡ n)
     (last : (d : X) → j + 1 < n → get_or row j d ≡ get_or old (n - 1) d) (rest : (k : ℕ) (d : X) → k ≢ j → k + 1 < n
     → get_or row k d ≡ get_or old k d) where
+  -- each item is left, but maybe the one at the place
   pub swap_keeps : (x : X) → Contains old x → Contains row x ⊎ ((d : X) → x ≡ get_or old j d)
   swap_keeps x h = elim (same_or h.0 j) [
     | inl e ↦ inr (λ d. sym (rw e at h.2) ∙ get_or_default old j x d (omega arith))
@@ -107,6 +111,7 @@ module _ {X : Type 0} (old row : List X) (j n : ℕ) (is : n ≡ length old) (in
     ]
   ]
 
+  -- what is left are some of the items
   pub swap_within : (x : X) → Contains row x → Contains old x
   swap_within x g = elim (same_or g.0 j) [
     | inl e ↦ elim (same_or (j + 1) n) [
@@ -116,5 +121,6 @@ module _ {X : Type 0} (old row : List X) (j n : ℕ) (is : n ≡ length old) (in
     | inr ne ↦ (g.0, omega (arith, g.1), sym (rest g.0 x ne (omega (arith, g.1))) ∙ g.2)
   ]
 
+  -- the items before the place stand as they did
   pub swap_cuts : IsCutAt j old row
   swap_cuts = record { shorter = short ∙ is; begins = λ k d lt. rest k d (omega arith) (omega arith) }

@@ -44,6 +44,7 @@ module _ (clauses : List (List ℕ)) (t u : Assigned) (x : Extends clauses t u) 
   done_cut row new j cut done k d lt = rw (cut.begins k d lt)
       (true_still clauses t u x (clause_at clauses (get_or row k d).clause) (done k d lt))
 
+  -- one more fresh clause is true
   pub true_more : (fresh new : List ℕ) (j : ℕ) → new ≡ fresh → AreTrue clauses fresh t.entries j
       → ((d : ℕ) → IsTrueIn u.entries (clause_at clauses (get_or fresh j d))) → AreTrue clauses new u.entries (j + 1)
   true_more fresh new j same done here k d lt = rw same (elim (same_or k j) [
@@ -51,6 +52,7 @@ module _ (clauses : List (List ℕ)) (t u : Assigned) (x : Extends clauses t u) 
     | inr ne ↦ true_still clauses t u x (clause_at clauses (get_or fresh k d)) (done k d (omega arith))
   ])
 
+  -- one fresh clause goes, and those before it are true
   pub true_cut : (fresh new : List ℕ) (j : ℕ) → IsCutAt j fresh new → AreTrue clauses fresh t.entries j
       → AreTrue clauses new u.entries j
   true_cut fresh new j cut done k d lt =
@@ -61,6 +63,7 @@ pub done_all : (clauses : List (List ℕ)) (row : List Watcher) (entries : List 
     → AreDone clauses row entries j → (x : Watcher) → Contains row x → IsTrueIn entries (clause_at clauses x.clause)
 done_all clauses row entries j le done x h = rw h.2 at (done h.0 x (omega (arith, h.1)))
 
+-- once the end is reached, all fresh clauses are true
 pub true_all : (clauses : List (List ℕ)) (fresh : List ℕ) (entries : List Entry) (j : ℕ) → length fresh ≤ j
     → AreTrue clauses fresh entries j → (i : ℕ) → Contains fresh i → IsTrueIn entries (clause_at clauses i)
 true_all clauses fresh entries j le done i h = rw h.2 at (done h.0 i (omega (arith, h.1)))
@@ -91,6 +94,7 @@ module _ (lists mid new : List (List Watcher)) (pairs : List Pair) (fresh rest :
   h3 = with_watcher mid (set pairs i p) fresh clauses t h2 p.second (record { clause = i; blocker = p.first }) new
       to_second (record { number = lt; blocker = is.first; pair = rw pair_now is })
 
+  -- the invariant holds with its pair, its two watchers, and its number no longer fresh
   pub watched_now : Keeps new (set pairs i p) rest clauses t
   watched_now = without_fresh new (set pairs i p) fresh clauses t h3 i rest keeps within (rw pair_now (inl (record {
     pair = is;
@@ -104,13 +108,16 @@ module _ (lists mid new : List (List Watcher)) (pairs : List Pair) (fresh rest :
     second_guarded = second;
   })))
 
+-- the code of a literal stays one of the trail's, as the trail grows
 pub code_still : (clauses : List (List ℕ)) (t u : Assigned) (n m l : ℕ) → Extends clauses t u → n ≡ 2 * t.vars
     → m ≡ 2 * u.vars → l < n → l < m
 code_still clauses t u n m l x a b lt = omega (arith, x.vars)
 
+-- the number that is read at a place is a fresh one
 pub fresh_there : (fresh : List ℕ) (k i : ℕ) → k < length fresh → ((d : ℕ) → get_or fresh k d ≡ i) → Contains fresh i
 fresh_there fresh k i lt is = (k, lt, is i)
 
+-- all fresh numbers stay but the one that was at a place
 pub keeps_at : (fresh new : List ℕ) (k i : ℕ) → ((d : ℕ) → get_or fresh k d ≡ i)
     → ((x : ℕ) → Contains fresh x → Contains new x ⊎ ((d : ℕ) → x ≡ get_or fresh k d)) → (x : ℕ) → Contains fresh x
     → Contains new x ⊎ (x ≡ i)
@@ -125,6 +132,7 @@ head_literal clauses t u l x ex head lt is by d =
     (sym (get_or-map (λ (e : Entry). e.literal) t.entries t.head d 0 lt) ∙ sym is ∙ sym (opposite_of-opposite_of x)
     ∙ sym (ap opposite_of by))
 
+-- the head stays before the end, as the trail grows
 pub head_below : (clauses : List (List ℕ)) (t u : Assigned) → Extends clauses t u → u.head ≡ t.head
     → t.head < length t.entries → u.head < length u.entries
 head_below clauses t u ex head lt = omega (arith, ap length ex.begins, length-append t.entries ex.more)

@@ -14,6 +14,7 @@ use Rattle.am_watch.specs.Watching.{clause_at, IsGuarded, IsSafe, IsWatched, Kee
 use Rattle.am_watch.specs.inside.Sweeps.{IsTurn}
 use Rattle.am_watch.proofs.Keeping.{guarded_open, with_watcher, with_pair, without_watcher}
 
+-- what holds of a number holds of one that equals it
 pub along : (P : ℕ → Type 0) (a b : ℕ) → a ≡ b → P b → P a
 along P a b e h = rw e h
 
@@ -53,10 +54,12 @@ module _ (lists mid new : List (List Watcher)) (pairs : List Pair) (fresh : List
     pub row_same : list_at mid l ≡ list_at lists l
     row_same = longer.others l (λ e. apart (sym e))
 
+    -- the watcher's place is still one of the list
     pub place_still : j < length (list_at mid l)
     place_still = rw row_same turn.place
 
     module _ (shorter : IsShorter l j mid new) where
+      -- the list that loses the watcher stays as it was before that place
       pub cut_at : IsCutAt j (list_at lists l) (list_at new l)
       cut_at = record {
         shorter = shorter.shorter ∙ ap length row_same;
@@ -105,6 +108,7 @@ module _ (lists mid new : List (List Watcher)) (pairs : List Pair) (fresh : List
       pair_now : pair_at (set pairs i p) i ≡ p
       pair_now = get_or-set_same pairs i p (record { first = 0; second = 0 }) (omega (arith, h.numbers, turn.number))
 
+      -- the invariant holds with the watcher's new literal, and its clause's new pair
       pub turned : Keeps new (set pairs i p) fresh clauses t
       turned = without_watcher mid (set pairs i p) fresh clauses t h2 l j i new shorter
           (λ d. ap (λ r. (get_or r j d).clause) row_same ∙ turn.here d)

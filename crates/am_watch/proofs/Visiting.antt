@@ -15,6 +15,7 @@ use Rattle.am_watch.specs.inside.Sweeps.{IsTurn}
 use Rattle.am_watch.proofs.Keeping.{with_blocker}
 use Rattle.am_watch.proofs.Turning.{along, other_cases}
 
+-- the code of a literal is below twice the number of variables
 pub code_below : (l vars n : ℕ) → variable_of l < vars → n ≡ 2 * vars → l < n
 code_below l vars n lt e = omega arith
 
@@ -22,12 +23,15 @@ module _ (lists : List (List Watcher)) (pairs : List Pair) (fresh : List ℕ) (c
     (l j : ℕ)
     (h : Keeps lists pairs fresh clauses t) (place : j < length (list_at lists l)) (w : Watcher) (at : (d : Watcher)
     → w ≡ get_or (list_at lists l) j d) where
+  -- what is read there is a watcher
   pub watcher : IsWatcher clauses pairs w
   watcher = h.watchers l w (j, place, sym (at w))
 
+  -- its blocker's variable is one of the trail's
   pub blocker_var : variable_of w.blocker < t.vars
   blocker_var = h.variables w.clause w.blocker watcher.blocker
 
+  -- its clause is true by a literal of it that is true
   pub true_by : (entries : List Entry) (m : ℕ) → Contains (clause_at clauses w.clause) m → Contains (literals entries) m
       → (d : Watcher) → IsTrueIn entries (clause_at clauses (get_or (list_at lists l) j d).clause)
   true_by entries m there true' d = rw (← at d) (m, there, true')
@@ -40,6 +44,7 @@ module _ (lists : List (List Watcher)) (pairs : List Pair) (fresh : List ℕ) (c
     is = by ∙ ap (λ q. other_of q l) (read
         ∙ get_or_default pairs w.clause p (record { first = 0; second = 0 }) (omega (arith, watcher.number, h.numbers)))
 
+    -- the other watched literal stands in the clause
     pub other_there : Contains (clause_at clauses w.clause) o
     other_there = elim (other_cases (pair_at pairs w.clause) l watcher.pair.differ).0 [
       | inl e ↦ along (Contains (clause_at clauses w.clause)) o _ (is ∙ e) watcher.pair.first
@@ -48,11 +53,13 @@ module _ (lists : List (List Watcher)) (pairs : List Pair) (fresh : List ℕ) (c
 
     -- it blocks from now on
     module _ (code : l < length lists) where
+      -- the invariant holds
       pub blocked : Keeps (set lists l (set (list_at lists l) j (record { clause = w.clause; blocker = o }))) pairs
           fresh clauses t
       blocked = with_blocker lists pairs fresh clauses t h l j (record { clause = w.clause; blocker = o }) code place
           here other_there
 
+      -- the list is as long, and stands as it did before that place
       pub blocked_kept : IsKeptAt j (list_at lists l)
           (list_at (set lists l (set (list_at lists l) j (record { clause = w.clause; blocker = o }))) l)
       blocked_kept =
@@ -64,6 +71,7 @@ module _ (lists : List (List Watcher)) (pairs : List Pair) (fresh : List ℕ) (c
                 d (omega arith);
           })
 
+      -- its clause is true where that literal is
       pub blocked_true : Contains (literals t.entries) o → (d : Watcher)
           → IsTrueIn t.entries (clause_at clauses
           (get_or (list_at (set lists l (set (list_at lists l) j (record { clause = w.clause; blocker = o }))) l) j
@@ -75,6 +83,7 @@ module _ (lists : List (List Watcher)) (pairs : List Pair) (fresh : List ℕ) (c
             get_or-set_same (list_at lists l) j b d place,
           ) (o, other_there, true')
 
+    -- it may turn to a literal of its clause that isn't false
     pub turns : (next : ℕ) → Contains (clause_at clauses w.clause) next → next ≢ o
         → ¬ (Contains (literals t.entries) (opposite_of next)) → Contains (literals t.entries) (opposite_of l)
         → IsTurn lists pairs clauses (literals t.entries) l j w.clause o next

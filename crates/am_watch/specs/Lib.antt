@@ -1,4 +1,5 @@
 pub mod Pairs
 pub mod Lists
 pub mod Watching
+pub mod WatchLaws
 pub mod inside

@@ -79,14 +79,15 @@ IsExplained from clauses entries =
     → IsReason clauses (take k (literals entries))
     (slice_index_or entries k d).literal (slice_index_or entries k d).reason
 
--- a trail goes on from another one by implied literals of its level
+-- a trail goes on from another one by implied literals of its level, each of which stands in its reason, whose other
+-- literals were false before it
 pub record Extends (clauses : List (List ℕ)) (t u : Assigned) : Type 0 where
   pub vars : u.vars ≡ t.vars
   pub level : u.level ≡ t.level
   pub more : List Entry
   pub begins : u.entries ≡ t.entries ++ more
   pub implied : All (λ e. IsSome e.reason × (e.level ≡ t.level)) more
-  pub explained : (from : ℕ) → IsExplained from clauses t.entries → IsExplained from clauses u.entries
+  pub explained : IsExplained (length t.entries) clauses u.entries
 
 -- some literal of the clause is true
 abbrev pub IsTrueIn : List Entry → List ℕ → Type 0

@@ -18,7 +18,7 @@
 //! }
 //! ```
 //!
-//! The clauses are the formula's, and behind them the learnt ones. What holds between them, the watches
+//! The clauses are the formula's, and after them the learnt ones. What holds between them, the watches
 //! and the trail stands in `specs/Watching.antt`.
 //!
 //! # What is proved
@@ -30,15 +30,17 @@
 //! whose other literals were false before it.
 //!
 //! This rests on one invariant between watches, clauses and trail, `Holds`. [`Watch::new`] gives it for an
-//! empty trail, [`Watch::add`] keeps it for one more clause, `propagate` keeps it, and laws say that a
-//! decision at the end of a trail and a return to a level keep it. `add` takes its memory before it
-//! changes anything. No clause tells watched literals from a scan of all clauses that meets the same
-//! contract: that only clauses with a watched literal that became false are looked at is not proved.
+//! empty trail, [`Watch::add`] keeps it for one more clause, `propagate` keeps it, and [`watch_laws`] say
+//! that `Trail::decide` at the end of a trail, `Trail::imply` and `Trail::back_to` keep it. `add` takes
+//! its memory before it changes anything. No clause tells watched literals from a scan of all clauses
+//! that meets the same contract: that only clauses with a watched literal that became false are looked
+//! at is not proved.
 #![tactic(auto)]
 
 mod lists;
 mod looks;
 mod watch;
+pub mod watch_laws;
 mod watcher;
 mod watches;
 

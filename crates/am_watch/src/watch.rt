@@ -33,7 +33,6 @@ impl Model for Watch {
 impl Watch {
     /// The watches of a formula's clauses, for an empty trail.
     pub fn new(alloc: Global, formula: &Formula) -> Result<Watch, AllocError>
-        requires { formula.now.vars < 2 ^ 31 }
         ensures { IfOk result (λ w. Holds w formula.now.clauses (empty_trail formula.now.vars)) }
     {
         let watches = Watches::new(alloc, formula)?;
@@ -43,9 +42,8 @@ impl Watch {
     /// One more clause, with the next number, which was pushed to the learnt ones. A refused call
     /// changes nothing.
     pub fn add(&mut self, clause: u32, lits: &[Lit]) -> Result<(), AllocError>
-        requires { clause ≡ length self.old.pairs }
         ensures ok { OnOk result ((clauses : List (List ℕ)) (t : Assigned)
-            → Holds self.old clauses t → All (λ l. variable_of l < t.vars) lits.now
+            → Holds self.old clauses t → clause ≡ length clauses → All (λ l. variable_of l < t.vars) lits.now
             → Holds self.new (clauses ++ lits.now ∷ []) t) }
         ensures err { OnErr result (self.new ≡ self.old) }
     {

@@ -34,20 +34,11 @@ pub struct Watches {
     fresh: Vec<u32>,
 }
 
-/// Appends a number, for which there is room.
-fn push_within(numbers: &mut Vec<u32>, number: u32)
-    requires { vec_len numbers.old < vec_capacity numbers.old }
-    ensures { numbers.new.items ≡ numbers.old.items ++ number ∷ [] }
-{
-    let _ = numbers.push(number);
-}
-
 impl Watches {
     ghost use Rattle.am_watch.specs.inside.Kept.{IsKept};
 
     /// The watches of a formula's clauses, for an empty trail.
     pub fn new(alloc: Global, formula: &Formula) -> Result<Watches, AllocError>
-        requires { formula.now.vars < 2 ^ 31 }
         ensures { IfOk result (λ w. IsKept w formula.now.clauses (empty_trail formula.now.vars)) }
     {
         let mut watch = Watches {
@@ -63,7 +54,6 @@ impl Watches {
 
     /// One more clause, with the next number. It is fresh.
     pub fn add(&mut self, clause: u32) -> Result<(), AllocError>
-        requires { clause ≡ length self.old.pairs.items }
         ensures lists { self.new.lists ≡ self.old.lists }
         ensures pairs { OnOk result (self.new.pairs.items ≡ self.old.pairs.items ++ no_pair ∷ []) }
         ensures fresh { OnOk result (self.new.fresh.items ≡ self.old.fresh.items ++ clause ∷ []) }
@@ -77,7 +67,7 @@ impl Watches {
         };
         self.fresh.reserve(1)?;
         self.pairs.push(pair)?;
-        push_within(&mut self.fresh, clause);
+        self.fresh.push_reserved(clause);
         Ok(())
     }
 

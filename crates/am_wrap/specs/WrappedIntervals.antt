@@ -1,7 +1,7 @@
 -- Wrapped intervals. A tuple has two words, its start and its end: the members are the words from the start upwards
 -- by 1, modulo 2 ^ w, to the end.
-use Rattle.std.specs.Prelude.{ℕ, ◌+◌, ◌-◌, ◌%◌, ◌^◌, ◌<◌, ◌≤◌, Bool, true, false, ◌&&◌, ◌||◌, if◌then◌else◌, nat_lt, nat_le}
-use Rattle.std.specs.Prelude.{◌==◌, List, [], ◌∷◌, slice_index, ⊤}
+use Rattle.std.specs.Prelude.{ℕ, ◌+◌, ◌-◌, ◌%◌, ◌^◌, ◌<◌, ◌≤◌, Bool, true, false, ◌&&◌, ◌||◌, if◌then◌else◌, nat_lt}
+use Rattle.std.specs.Prelude.{nat_le, ◌==◌, List, [], ◌∷◌, slice_index, ⊤}
 use Rattle.std.specs.declared.option.Option.{Option}
 use Rattle.std.specs.declared.option.Option.TheVariants.{Some}
 use Rattle.am_bv.specs.Terms.{binary}
@@ -12,9 +12,11 @@ use Rattle.am_domain.specs.Abstraction.{Abstraction}
 use Rattle.am_domain.specs.Meaning.{Meaning}
 use Rattle.am_domain.specs.Walk.{point, steps}
 
+-- the word that the walk begins with
 abbrev pub start : List ℕ → ℕ
 start a = slice_index a 0
 
+-- the word that the walk ends with
 abbrev pub end : List ℕ → ℕ
 end a = slice_index a 1
 

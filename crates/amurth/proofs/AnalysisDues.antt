@@ -1,5 +1,5 @@
 -- The responses to an analysis.
-use Rattle.std.proofs.Common.{◌≡◌, ℕ, ◌+◌, ◌<◌, List, Some, Result, Ok, Err, get_or, length, take, ap, subst, sym, ◌∙◌}
+use Rattle.std.proofs.Common.{◌≡◌, ℕ, ◌+◌, ◌<◌, List, Some, Result, Err, get_or, length, take, ap, subst, sym, ◌∙◌}
 use Rattle.std.specs.Prelude.{All, IfErr}
 use Rattle.std.proofs.lemmas.List.{take_more}
 use Rattle.std.proofs.lemmas.List.Elements.{All-push}
@@ -12,7 +12,7 @@ use Rattle.amurth.specs.inside.Analyses.{IsFailureAmong, IsFailureAt}
 use Rattle.amurth.specs.declared.analysing.Unaccepted.{Unaccepted}
 use Rattle.amurth.specs.declared.analysing.Unaccepted.TheVariants as unaccepted
 
--- a certificate that fails, behind those that are accepted, is the first
+-- a certificate that fails, after those that are accepted, is the first
 pub failure_among : (cs : List Certificate) (i : ℕ) (c : Certificate) (e : Unaccepted) → i < length cs →
     c ≡ get_or cs i c → All IsProved (take i cs) → IsFailureAt i c e → IsFailureAmong cs e
 failure_among cs i c (unaccepted.Rejected number fault) inside is proved h =
@@ -24,6 +24,7 @@ failure_among cs i c (unaccepted.Rejected number fault) inside is proved h =
     })
 failure_among cs i c unaccepted.NoMemory inside is proved h = tt
 
+-- what holds of an error holds of the result that is this error
 pub if_err : {E : Type 0} (P : E → Type 0) (r : Result (Unit {0}) E) (e : E) → r ≡ Err e → P e → IfErr r P
 if_err {E = E} P r e is h = subst (λ (q : Result (Unit {0}) E). IfErr q P) (sym is) h
 
@@ -33,6 +34,8 @@ pub All-more : {X : Type 0} (P : X → Type 0) (xs : List X) (i : ℕ) (x : X) �
 All-more P xs i x inside is all h =
     rw (take_more xs i x inside) (All-push P (take i xs) (get_or xs i x) all (subst P is h))
 
-pub first_of : (cs : List Certificate) (e : Unaccepted) (number : ℕ) (fault : Fault) → e ≡ unaccepted.Rejected number fault →
+-- a failure among certificates that is a rejection is the first fault
+pub first_of : (cs : List Certificate) (e : Unaccepted) (number : ℕ) (fault : Fault) →
+    e ≡ unaccepted.Rejected number fault →
     IsFailureAmong cs e → IsFirstFault cs number fault
 first_of cs e number fault is h = subst (IsFailureAmong cs) is h

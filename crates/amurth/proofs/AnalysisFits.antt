@@ -1,5 +1,6 @@
 -- The operations of accepted certificates that fit into a flow can be run with it, and cover its runs.
-use Rattle.std.proofs.Common.{◌≡◌, ℕ, true, List, [], ◌∷◌, ◌++◌, Option, Some, None, get_or, length, map, ap, sym, subst, refl, ◌∙◌}
+use Rattle.std.proofs.Common.{◌≡◌, ℕ, true, List, [], ◌∷◌, ◌++◌, Option, Some, None, get_or, length, map, ap, sym}
+use Rattle.std.proofs.Common.{subst, refl, ◌∙◌}
 use Rattle.std.specs.Prelude.{All, IsTrue, slice_get}
 use Rattle.std.specs.Option.{option_map}
 use Rattle.std.proofs.lemmas.List.{length-map}
@@ -84,6 +85,7 @@ module _ (f : Flow) (cs : List Certificate) (fit : AllFit f (map signature cs)) 
       let own = fit i (signature c) (signature_at cs i c e) in
       record { best = refl; width = own.width; kind = own.kind; inputs = own.inputs }
 
+  -- the operations of certificates that fit can be run with the flow
   pub are_operations : IsFlow (length cs) f → All IsCertificate cs → AreOperations f (map operation cs)
   are_operations is limits = record {
     flow = subst (λ n. IsFlow n f) (sym (length-map cs operation)) is;
@@ -98,6 +100,7 @@ module _ (f : Flow) (cs : List Certificate) (fit : AllFit f (map signature cs)) 
         });
   }
 
+  -- the operations of proved certificates are sound
   pub are_sound : All IsProved cs → AllSound (map operation cs)
   are_sound proved i o e =
       let of = certificate_at cs i o e in

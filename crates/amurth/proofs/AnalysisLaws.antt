@@ -1,6 +1,6 @@
 -- How certificates and a flow are read, settled, and fit to be run.
-use Rattle.std.proofs.Common.{◌≡◌, ℕ, suc, ◌^◌, ◌<◌, ◌≤◌, true, List, [], ◌∷◌, ◌++◌}
-use Rattle.std.proofs.Common.{Result, Ok, Err, length, ap, sym, subst, refl, ◌∙◌, inl, inr, arith, nat_lt}
+use Rattle.std.proofs.Common.{◌≡◌, ℕ, suc, ◌<◌, ◌≤◌, true, List, [], ◌∷◌, ◌++◌, Result, Ok, Err, length, ap, sym, subst}
+use Rattle.std.proofs.Common.{refl, ◌∙◌, inl, inr, arith, nat_lt}
 use Rattle.std.specs.Prelude.{codes}
 use Rattle.std.proofs.lemmas.List.{append_assoc}
 use Rattle.am_text.specs.Tokens.{Left, Placed, text_left, words}
@@ -18,8 +18,10 @@ use Rattle.am_syntax.proofs.Laws.{Takes-length, bind_ok, chosen, ok_is, reached_
 use Rattle.am_cert.specs.Certificate.{Certificate}
 use Rattle.am_cert.specs.declared.limits.TheConstants.{MOST_BYTES}
 use Rattle.am_cert.specs.Grammar.{shape_of, version}
-use Rattle.am_cert.specs.Texts.{Draft, answered, draft, settled}
-use Rattle.am_cert.proofs.Laws.{answered_law, draft_shape, heading_law, reached_length, tokens_length}
+use Rattle.am_cert.specs.Texts.{Draft, IsShort, answered, draft, settled}
+use Rattle.am_cert.specs.Versions.{has_hints}
+use Rattle.am_cert.proofs.Laws.{answered_law, draft_shape, heading_law, left_short, reached_length, reached_short}
+use Rattle.am_cert.proofs.Laws.{text_short}
 use Rattle.amurth.specs.Analysed.{all_settled, behind, certificate_behind}
 use Rattle.amurth.specs.inside.Analyses.{ReadsAt}
 use Rattle.amurth.specs.declared.limits.TheConstants.{MOST_CERTIFICATES}
@@ -32,15 +34,29 @@ unfolding draft
 draft_moves s t d e =
     let f = bind_ok ((keyed (codes "certificate") version).read s) _ (d, t) e in
     let g = bind_ok (problem_draft f.0.1) _ (d, t) f.2 in
-    let h = bind_ok (answered g.0.0 g.0.1) _ (d, t) g.2 in
-    let made : Draft × Left = (record { version = f.0.0; problem = g.0.0; outcome = h.0.0 }, h.0.1) in
+    let h = bind_ok (answered f.0.0 g.0.0 g.0.1) _ (d, t) g.2 in
+    let made : Draft × Left = (record { version = f.0.0; problem = g.0.0; answer = h.0.0 }, h.0.1) in
     let same : h.0.1 ≡ t = ap (λ (q : Draft × Left). q.1) (ok_is made (d, t) h.2) in
     let one = Takes-length s _ f.0.1 (heading_law.takes s f.0.0 f.0.1 f.1).0 in
     let two = reached_length f.0.1 g.0.1 (reached_ok problem_draft f.0.1 g.0.1 g.0.0 draft_advances g.1) in
     let shape = draft_shape f.0.1 g.0.1 g.0.0 g.1 in
-    let three =
-    Takes-length g.0.1 _ h.0.1 ((answered_law (shape_of g.0.0.lines) shape).takes g.0.1 h.0.0 h.0.1 h.1).0 in
+    let law = answered_law (shape_of g.0.0.lines) shape (has_hints f.0.0) in
+    let three = Takes-length g.0.1 _ h.0.1 (law.takes g.0.1 h.0.0 h.0.1 h.1).0 in
     subst (λ (u : Left). length u.tokens < length s.tokens) same (omega (arith, one, two, three))
+
+-- after a certificate of a short text, what is left is short
+draft_short : (s t : Left) (d : Draft) → draft s ≡ Ok (d, t) → IsShort s → IsShort t
+unfolding draft
+draft_short s t d e short =
+    let f = bind_ok ((keyed (codes "certificate") version).read s) _ (d, t) e in
+    let g = bind_ok (problem_draft f.0.1) _ (d, t) f.2 in
+    let h = bind_ok (answered f.0.0 g.0.0 g.0.1) _ (d, t) g.2 in
+    let made : Draft × Left = (record { version = f.0.0; problem = g.0.0; answer = h.0.0 }, h.0.1) in
+    let same : h.0.1 ≡ t = ap (λ (q : Draft × Left). q.1) (ok_is made (d, t) h.2) in
+    let one = left_short s _ f.0.1 (heading_law.takes s f.0.0 f.0.1 f.1).0 short in
+    let two = reached_short f.0.1 g.0.1 (reached_ok problem_draft f.0.1 g.0.1 g.0.0 draft_advances g.1) one in
+    let law = answered_law (shape_of g.0.0.lines) (draft_shape f.0.1 g.0.1 g.0.0 g.1) (has_hints f.0.0) in
+    subst IsShort same (left_short g.0.1 _ h.0.1 (law.takes g.0.1 h.0.0 h.0.1 h.1).0 two)
 
 none_read : (tokens : List Placed) (end : ℕ) (d : Draft) (t : Left) →
     judged_in {X = Draft} (λ _. Err Count) tokens end ≡ Ok (d, t) → ⊥
@@ -51,11 +67,20 @@ refused_draft : (s t : Left) (d : Draft) → judged {X = Draft} (λ _. Err Count
 unfolding judged
 refused_draft s t d e = none_read s.tokens s.end d t e
 
--- a certificate behind others takes a token at least
+-- a certificate after others takes a token at least
 pub behind_moves : MovesOn certificate_behind
 behind_moves seen s d t e =
     elim (chosen (nat_lt (length seen) MOST_CERTIFICATES) (draft s) (judged (λ _. Err Count) s) (Ok (d, t)) e) [
       | inl more ↦ draft_moves s t d more.1
+      | inr none ↦ absurd (refused_draft s t d none.1)
+    ]
+
+-- .. and leaves a short text short
+pub behind_short : (seen : List Draft) (s t : Left) (d : Draft) → certificate_behind seen s ≡ Ok (d, t) → IsShort s →
+    IsShort t
+behind_short seen s t d e short =
+    elim (chosen (nat_lt (length seen) MOST_CERTIFICATES) (draft s) (judged (λ _. Err Count) s) (Ok (d, t)) e) [
+      | inl more ↦ draft_short s t d more.1 short
       | inr none ↦ absurd (refused_draft s t d none.1)
     ]
 
@@ -106,7 +131,8 @@ made_reads view (Err NoMemory) old new reader h = tt
 -- ---- whole texts
 
 -- a refusal that was read is the text's
-pub read_refused : {A X : Type 0} (view : A → X) (e : ReadError) (left : Left) (read : Read X) (answer : Result X Refusal) →
+pub read_refused : {A X : Type 0} (view : A → X) (e : ReadError) (left : Left) (read : Read X)
+    (answer : Result X Refusal) →
     whole read ≡ answer → ReadsAt view (Err e) left read → Answers view (Err e) answer
 read_refused view (Refused r) left read answer is h = sym is ∙ ap whole h.1 ∙ ap (λ (r : Refusal). Err r) (sym h.2)
 read_refused view NoMemory left read answer is h = tt
@@ -130,7 +156,7 @@ settled_length [] cs e =
 settled_length (d ∷ ds) cs e =
     counted ds (length ds) (settled d) (all_settled ds) cs (λ xs f. settled_length ds xs f) e
 
--- a certificate behind those that were read is refused
+-- a certificate after those that were read is refused
 pub loop_refused : {A : Type 0} (view : A → List Draft) (result : Result A ReadError) (e : ReadError) → result ≡ Err e →
     (seen : List Draft) (s left : Left) (all : Read (List Draft)) → next_is (codes "certificate") (words s) ≡ true →
     repeat_from (next_is (codes "certificate")) certificate_behind seen s ≡ all →
@@ -139,10 +165,9 @@ loop_refused {A = A} view result e is seen s left all comes so_far h =
     subst (λ (q : Result A ReadError). ReadsAt view q left all) (sym is)
     (reads_err (λ (d : Draft). d) view e left (certificate_behind seen s) all
     (λ stop refused.
-    so_far_fails (next_is (codes "certificate")) certificate_behind behind_moves seen s stop all comes refused so_far) h)
+    so_far_fails (next_is (codes "certificate")) certificate_behind behind_moves seen s stop all comes refused so_far)
+    h)
 
--- the tokens of an input are few
-pub few_tokens : (text : List ℕ) (s : Left) → s ≡ text_left text → length text ≤ MOST_BYTES → length s.tokens < 2 ^ 32
-few_tokens text s is short =
-    subst (λ (t : Left). length t.tokens < 2 ^ 32) (sym is)
-    (let few = tokens_length 0 text in omega (arith, few, short))
+-- an input is short
+pub input_short : (text : List ℕ) (s : Left) → s ≡ text_left text → length text ≤ MOST_BYTES → IsShort s
+input_short text s is most = subst IsShort (sym is) (text_short text (omega (arith, most)))

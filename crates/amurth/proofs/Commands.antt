@@ -1,5 +1,6 @@
 -- Words that call for a command.
-use Rattle.std.proofs.Common.{◌≡◌, ℕ, ◌<◌, ◌≤◌, ◌^◌, true, cond, ◌&&◌, nat_le, List, [], ◌∷◌, Ok, Err, Result, decimal, length}
+use Rattle.std.proofs.Common.{◌≡◌, ℕ, ◌<◌, ◌≤◌, ◌^◌, true, cond, ◌&&◌, nat_le, List, [], ◌∷◌, Ok, Err, Result, decimal}
+use Rattle.std.proofs.Common.{length}
 use Rattle.std.proofs.Common.{ap, arith, inl, inr, lit<, subst, sym, ◌∙◌}
 use Rattle.std.specs.Prelude.{Some, slice_get}
 use Rattle.std.proofs.lemmas.Bool.{and_from, and_parts, le-leb}
@@ -9,7 +10,8 @@ use Rattle.am_syntax.specs.declared.refusal.Cause.TheVariants.{Number, Syntax}
 use Rattle.am_syntax.specs.Numerals.{is_canonical, is_digits, number_of}
 use Rattle.am_syntax.specs.Pieces.{number_judge}
 use Rattle.am_syntax.specs.Readers.{Word}
-use Rattle.am_syntax.proofs.Laws.{chosen, cond_ok, decimal-is_canonical, decimal-is_digits, decimal-number_of, digits_decimal_of}
+use Rattle.am_syntax.proofs.Laws.{chosen, cond_ok, decimal-is_canonical, decimal-is_digits, decimal-number_of}
+use Rattle.am_syntax.proofs.Laws.{digits_decimal_of}
 
 -- ---- lists of few words
 

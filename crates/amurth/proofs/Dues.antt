@@ -1,5 +1,6 @@
 -- What is due to an input.
-use Rattle.std.proofs.Common.{◌≡◌, ℕ, ◌+◌, ◌<◌, List, [], refl, lit<, None, Some, IfSome, Ok, Err, length, arith, inl, inr, ap, subst, sym, ◌∙◌, length-append}
+use Rattle.std.proofs.Common.{◌≡◌, ℕ, ◌+◌, ◌<◌, List, [], refl, lit<, None, Some, IfSome, Ok, Err, length, arith, inl}
+use Rattle.std.proofs.Common.{inr, ap, subst, sym, ◌∙◌, length-append}
 use Rattle.std.specs.Prelude.{Contains, IfOk, Result}
 use Rattle.std.specs.declared.option.Option.{Option}
 use Rattle.am_cert.specs.declared.limits.TheConstants.{MOST_BYTES}
@@ -19,8 +20,10 @@ use Rattle.amurth.specs.Listed.{IsListing}
 use Rattle.amurth.specs.Made.{IsMakeDue}
 use Rattle.amurth.specs.Run.{IsDue, IsDueTo, ends_of, input_of}
 use Rattle.amurth.specs.Synthesised.{status_of}
+use Rattle.amurth.specs.Translated.{IsTranslated}
 use Rattle.amurth.specs.declared.command.Command.{Command}
 use Rattle.amurth.specs.declared.command.Command.TheVariants.{Analyse, Check, List as ListCommand, Make, Synth}
+use Rattle.amurth.specs.declared.command.Command.TheVariants.{Translate}
 use Rattle.amurth.specs.declared.response.Response.{Response}
 use Rattle.amurth.specs.declared.status.Status.{Status}
 use Rattle.amurth.specs.declared.status.Status.TheVariants.{Refused}
@@ -59,6 +62,11 @@ check_end : (s : Status) (input written : List ℕ) → IsAnswer ReadsCertificat
 check_end s input written (inl h) = judged_end h.value s written h.due
 check_end s input written (inr h) = end_is Check s _ h.ended (1, lit< tt, refl)
 
+translated_end : (c : Certificate) (s : Status) (written : List ℕ) → IsTranslated c s written →
+    Contains (ends_of Translate) s
+translated_end c s written (inl h) = end_is Translate s _ h.ended (0, lit< tt, refl)
+translated_end c s written (inr h) = end_is Translate s _ h.ended (2, lit< tt, refl)
+
 analysis_end : (a : Analysis) (s : Status) (written : List ℕ) → IsAnalysisDue a s written → Contains (ends_of Analyse) s
 analysis_end a s written (inl h) = end_is Analyse s _ h.ended (0, lit< tt, refl)
 analysis_end a s written (inr (inl h)) = end_is Analyse s _ h.ended (1, lit< tt, refl)
@@ -69,10 +77,13 @@ listing_end p s written (inl h) = end_is ListCommand s _ h.ended (0, lit< tt, re
 listing_end p s written (inr h) = end_is ListCommand s _ h.ended (1, lit< tt, refl)
 
 -- what is due has a status that the command may end with
-pub due_possible : (c : Command) (s : Status) (input written : List ℕ) → IsDue c s input written → Contains (ends_of c) s
+pub due_possible : (c : Command) (s : Status) (input written : List ℕ) → IsDue c s input written →
+    Contains (ends_of c) s
 due_possible Synth s input written (inl h) = end_is Synth s _ h.due.synthesis.ended (synth_end h.due.outcome)
 due_possible Synth s input written (inr h) = end_is Synth s _ h.ended (1, lit< tt, refl)
 due_possible Check s input written h = check_end s input written h.answer
+due_possible Translate s input written (inl h) = translated_end h.value s written h.due
+due_possible Translate s input written (inr h) = end_is Translate s _ h.ended (1, lit< tt, refl)
 due_possible Analyse s input written (inl h) = analysis_end h.value s written h.due
 due_possible Analyse s input written (inr h) = end_is Analyse s _ h.ended (1, lit< tt, refl)
 due_possible ListCommand s input written (inl h) = listing_end h.value s written h.due
@@ -85,10 +96,12 @@ due_possible (Make n) s input written h = end_is (Make n) s _ h.synthesis.ended 
 abbrev pub HasInput : Command → Type 0
 HasInput Synth = Unit {0}
 HasInput Check = Unit {0}
+HasInput Translate = Unit {0}
 HasInput Analyse = Unit {0}
 HasInput ListCommand = Unit {0}
 HasInput (Make n) = ⊥
 
+-- the same command reads an input too
 pub has_input : {c d : Command} → c ≡ d → HasInput d → HasInput c
 has_input same has = subst HasInput (sym same) has
 
@@ -96,13 +109,15 @@ has_input same has = subst HasInput (sym same) has
 reads_left : (c : Command) → HasInput c → (left : Option (List ℕ)) → left ≡ input_of c left
 reads_left Synth has left = refl
 reads_left Check has left = refl
+reads_left Translate has left = refl
 reads_left Analyse has left = refl
 reads_left ListCommand has left = refl
 reads_left (Make n) has left = absurd has
 
 -- what is due to the text that was read is due to the source
 pub read_due : (c : Command) → HasInput c → (left : Option (List ℕ)) (text : List ℕ) →
-    IfSome left (λ all. text ≡ all) → (s : Status) (written : List ℕ) → IsDue c s text written → IsDueTo c left s written
+    IfSome left (λ all. text ≡ all) → (s : Status) (written : List ℕ) → IsDue c s text written →
+    IsDueTo c left s written
 read_due c has left text whole s written due = record {
   possible = due_possible c s text written due;
   due = subst (λ input. IfSome input (λ all. IsDue c s all written)) (reads_left c has left) (told left whole);
@@ -121,12 +136,16 @@ made_due n left s written due = record { possible = due_possible (Make n) s [] w
 
 long_refused : (c : Command) → HasInput c → (input : List ℕ) → MOST_BYTES < length input →
     IsDue c Refused input (refusal_line Long)
-long_refused Synth has input long = inr (record { ended = refl; refusal = Long; first = inl (long, refl); wrote = refl })
+long_refused Synth has input long =
+    inr (record { ended = refl; refusal = Long; first = inl (long, refl); wrote = refl })
 long_refused Check has input long = record {
   answer = inr (record { ended = refl; refusal = Long; first = inl (long, refl); wrote = refl });
   own = λ problem synthesised short. absurd (omega (arith, long, short));
 }
-long_refused Analyse has input long = inr (record { ended = refl; refusal = Long; first = inl (long, refl); wrote = refl })
+long_refused Translate has input long =
+    inr (record { ended = refl; refusal = Long; first = inl (long, refl); wrote = refl })
+long_refused Analyse has input long =
+    inr (record { ended = refl; refusal = Long; first = inl (long, refl); wrote = refl })
 long_refused ListCommand has input long =
     inr (record { ended = refl; refusal = Long; first = inl (long, refl); wrote = refl })
 long_refused (Make n) has input long = absurd has
@@ -134,6 +153,7 @@ long_refused (Make n) has input long = absurd has
 refusable : (c : Command) → HasInput c → Contains (ends_of c) Refused
 refusable Synth has = (1, lit< tt, refl)
 refusable Check has = (1, lit< tt, refl)
+refusable Translate has = (1, lit< tt, refl)
 refusable Analyse has = (1, lit< tt, refl)
 refusable ListCommand has = (1, lit< tt, refl)
 refusable (Make n) has = absurd has

@@ -37,13 +37,14 @@ own_input : (input written : List ℕ) (s : IsSynthesised Done input written) �
 own_input input written s short =
     let c = certificate s.value s.due.outcome in
     let is : IsCertificate c =
-    outcomes_are_writable Two s.value s.due.outcome s.text.reads.limits
+    outcomes_are_writable Two s.value s.due.outcome refl s.text.reads.limits
     (synthesis_writable s.value s.due.outcome s.due.synthesis.synthesis) in
     record { short = short; reads = subst (λ text. Reads text c) (sym s.due.wrote) (printed_certificates_read c is) }
 
 -- it gets no other verdict
 own_verdict : (input written : List ℕ) → IsSynthesised Done input written → length written ≤ MOST_BYTES →
-    (verdict : Result (Unit {0}) FeedEnd) → IsVerdict written verdict → (verdict ≡ Ok tt) ⊎ (verdict ≡ Err feed.NoMemory)
+    (verdict : Result (Unit {0}) FeedEnd) → IsVerdict written verdict →
+    (verdict ≡ Ok tt) ⊎ (verdict ≡ Err feed.NoMemory)
 own_verdict input written s short =
     accepted_texts_pass written (certificate s.value s.due.outcome) (own_input input written s short)
     (done_accepted s.value s.due.outcome s.due.synthesis.synthesis s.due.synthesis.ended)
@@ -53,7 +54,8 @@ no_fault : {P : Type 0} (e : FeedEnd) (verdict : Result (Unit {0}) FeedEnd) → 
 no_fault e verdict is (inl ok) other = cc (is, ok)
 no_fault e verdict is (inr none) other = absurd (other (cc (is, none)))
 
-own_judged : (c : Certificate) (status : Status) (text written : List ℕ) → IsTextOf Reads text c → IsJudged c status written →
+own_judged : (c : Certificate) (status : Status) (text written : List ℕ) → IsTextOf Reads text c →
+    IsJudged c status written →
     (input : List ℕ) → IsSynthesised Done input text → length text ≤ MOST_BYTES → status ≡ Done
 own_judged c status text written is (inl passed) input s short = passed.ended
 own_judged c status text written is (inr faulty) input s short =
@@ -63,7 +65,8 @@ own_judged c status text written is (inr faulty) input s short =
 
 own_accepted : (status : Status) (text written : List ℕ) → IsAnswer Reads certificate_of IsJudged status text written →
     (input : List ℕ) → IsSynthesised Done input text → length text ≤ MOST_BYTES → status ≡ Done
-own_accepted status text written (inl h) input s short = own_judged h.value status text written h.text h.due input s short
+own_accepted status text written (inl h) input s short =
+    own_judged h.value status text written h.text h.due input s short
 own_accepted status text written (inr h) input s short =
     no_fault (feed.Refused h.refusal) (Err (feed.Refused h.refusal)) refl
     (own_verdict input text s short (Err (feed.Refused h.refusal)) h.first) (λ e. cc)

@@ -18,7 +18,8 @@ synthesis_writable p (Turns trace) h = h
 synthesis_writable p (Conflicts trace asked log) h = (h.0.valid, h.0.few, h.1, h.2)
 
 -- some transformer of a made problem is sound
-pub made_not_absent : (n : ℕ) (p : Problem) → p ≡ made n → (trace : List Turn) (log : List Chain) → ¬ IsSynthesis p (Absent trace log)
+pub made_not_absent : (n : ℕ) (p : Problem) → p ≡ made n → (trace : List Turn) (log : List Chain)
+    → ¬ IsSynthesis p (Absent trace log)
 made_not_absent n p same trace log h =
     let some = subst HasSound (sym same) (made-sound n) in
     h.0 some.terms some.derivable some.sound

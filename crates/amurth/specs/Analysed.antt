@@ -1,7 +1,6 @@
 -- What `analyse` reads, certificates and then a flow, and what it writes: the flow's table.
-use Rattle.std.specs.Prelude.{◌≡◌, ℕ, ◌≤◌, ◌⊎◌, Bool, false, true, nat_lt, List, [], ◌∷◌, All, decimal, codes}
-use Rattle.std.specs.Prelude.{length, map, take}
-use Rattle.std.specs.Prelude.{Option, None, Some, Result, Ok, Err, slice_get, if◌then◌else◌}
+use Rattle.std.specs.Prelude.{◌≡◌, ℕ, ◌⊎◌, Bool, false, true, nat_lt, List, [], ◌∷◌, All, decimal, codes, length, map}
+use Rattle.std.specs.Prelude.{take, Option, None, Some, Result, Ok, Err, slice_get, if◌then◌else◌}
 use Rattle.am_text.specs.Tokens.{bad_byte, text_left}
 use Rattle.am_bv.specs.declared.term.Term.{Term}
 use Rattle.am_cert.specs.Certificate.{Certificate}
@@ -36,7 +35,7 @@ pub record Analysis : Type 0 where
   pub certificates : List Certificate
   pub flow : Flow
 
--- a certificate behind others, of so many at most
+-- a certificate after others, of so many at most
 abbrev pub certificate_behind : List Draft → Reader Draft
 certificate_behind seen = λ s. if nat_lt (length seen) MOST_CERTIFICATES then draft s else judged (λ _. Err Count) s
 
@@ -47,6 +46,7 @@ drafts =
     (flow (length cs)).read >>= λ f.
     done (cs, f)
 
+-- the drafts of a text, unless a byte is refused
 abbrev pub drafted : List ℕ → Option ℕ → Result (List Draft × Flow) Refusal
 drafted text (Some place) = Err (BadByte place)
 drafted text None = whole (drafts (text_left text))
@@ -55,6 +55,7 @@ drafted text None = whole (drafts (text_left text))
 abbrev pub drafts_of : List ℕ → Result (List Draft × Flow) Refusal
 drafts_of text = drafted text (bad_byte text)
 
+-- a certificate before others, or the first refusal
 abbrev pub behind : Result Certificate Refusal → Result (List Certificate) Refusal → Result (List Certificate) Refusal
 behind (Ok c) (Ok cs) = Ok (c ∷ cs)
 behind (Ok c) (Err r) = Err r
@@ -65,10 +66,12 @@ abbrev pub all_settled : List Draft → Result (List Certificate) Refusal
 all_settled [] = Ok []
 all_settled (d ∷ ds) = behind (settled d) (all_settled ds)
 
+-- certificates and a flow are what is analysed, unless one is refused
 abbrev pub settled_with : Flow → Result (List Certificate) Refusal → Result Analysis Refusal
 settled_with f (Ok cs) = Ok (record { certificates = cs; flow = f })
 settled_with f (Err r) = Err r
 
+-- what is analysed of drafts, unless there is a refusal
 abbrev pub analysed : Result (List Draft × Flow) Refusal → Result Analysis Refusal
 analysed (Ok p) = settled_with p.1 (all_settled p.0)
 analysed (Err r) = Err r
@@ -79,6 +82,7 @@ analysis_of text = analysed (drafts_of text)
 
 -- ---- operations
 
+-- whether an outcome is a best transformer
 abbrev pub is_best : Outcome → Bool
 is_best (Best t trace sound_log best_log) = true
 is_best (Absent trace log) = false
@@ -94,6 +98,7 @@ signature c = record {
   best = is_best c.outcome;
 }
 
+-- the terms of a best transformer
 abbrev pub best_terms : Outcome → List Term
 best_terms (Best t trace sound_log best_log) = t
 best_terms (Absent trace log) = []
@@ -145,6 +150,6 @@ abbrev pub IsAnalysisDue : Analysis → Status → List ℕ → Type 0
 IsAnalysisDue a status written =
     IsAnalysed a status written ⊎ (IsMismatched a status written ⊎ IsUnaccepted a status written)
 
--- what `analyse` writes for an input, by the status behind it
+-- what `analyse` writes for an input, by the status after it
 abbrev pub IsAnalyseDue : Status → List ℕ → List ℕ → Type 0
 IsAnalyseDue = IsAnswer (λ input a. analysis_of input ≡ Ok a) analysis_of IsAnalysisDue

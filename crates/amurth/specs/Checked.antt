@@ -13,6 +13,7 @@ use Rattle.amurth.specs.Synthesised.{IsSynthesised}
 use Rattle.amurth.specs.declared.status.Status.{Status}
 use Rattle.amurth.specs.declared.status.Status.TheVariants.{Done, Rejected}
 
+-- the line of a certificate that is accepted
 abbrev pub accepted_text : List ℕ
 accepted_text = line (codes "accepted" ∷ [])
 
@@ -38,7 +39,7 @@ pub record IsFaulty (c : Certificate) (status : Status) (written : List ℕ) : T
 abbrev pub IsJudged : Certificate → Status → List ℕ → Type 0
 IsJudged c status written = IsPassed c status written ⊎ IsFaulty c status written
 
--- what `check` writes for an input, by the status behind it; what `synth` wrote as done, and isn't too long, is
+-- what `check` writes for an input, by the status after it; what `synth` wrote as done, and isn't too long, is
 -- accepted
 pub record IsCheckDue (status : Status) (input written : List ℕ) : Type 0 where
   pub answer : IsAnswer Reads certificate_of IsJudged status input written

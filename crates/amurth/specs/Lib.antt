@@ -3,6 +3,7 @@ pub mod Lines
 pub mod Answers
 pub mod Synthesised
 pub mod Checked
+pub mod Translated
 pub mod Listed
 pub mod Made
 pub mod Analysed

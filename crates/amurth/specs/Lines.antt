@@ -3,8 +3,11 @@ use Rattle.std.specs.Prelude.{ℕ, List, [], ◌∷◌, ◌++◌, codes, decimal
 use Rattle.am_cert.specs.declared.limits.TheConstants.{MOST_BYTES}
 use Rattle.am_chain.specs.declared.fault.Why.{Why}
 use Rattle.am_chain.specs.declared.fault.Why.TheVariants.{NoClause, NoPivot}
+use Rattle.am_hint.specs.declared.fault.HintWhy.{HintWhy}
+use Rattle.am_hint.specs.declared.fault.HintWhy.TheVariants as hint
+use Rattle.am_hint.specs.declared.fault.HintWhy.TheVariants.{NoConflict, NotNormal, NotUnit}
 use Rattle.am_query.specs.declared.fault.Fault.{Fault}
-use Rattle.am_query.specs.declared.fault.Fault.TheVariants.{BadChain, NegativeFalse, NotEmpty, PositiveFalse}
+use Rattle.am_query.specs.declared.fault.Fault.TheVariants.{BadChain, BadHint, NegativeFalse, NotEmpty, PositiveFalse}
 use Rattle.am_query.specs.declared.fault.Fault.TheVariants.{TermOutside, Unfinished}
 use Rattle.am_syntax.specs.Canonical.{line}
 use Rattle.am_syntax.specs.Readers.{Word, Words}
@@ -12,7 +15,7 @@ use Rattle.am_syntax.specs.declared.refusal.Refusal.{Refusal}
 use Rattle.am_syntax.specs.declared.refusal.Refusal.TheVariants.{BadByte, Count, Load, Long, Many, Mismatch, Name}
 use Rattle.am_syntax.specs.declared.refusal.Refusal.TheVariants.{Number, Slots, Syntax, Twice, Undefined, Wide}
 
--- a name and a number, behind the word `refused`
+-- a name and a number, after the word `refused`
 abbrev pub refused : Word → ℕ → List ℕ
 refused name n = line (codes "refused" ∷ name ∷ decimal n ∷ [])
 
@@ -32,9 +35,17 @@ refusal_line Long = refused (codes "Long") MOST_BYTES
 refusal_line (Wide n) = refused (codes "Wide") n
 refusal_line (Many n) = refused (codes "Many") n
 
+-- the word of what is wrong with a chain's step
 abbrev pub why_word : Why → Word
 why_word NoClause = codes "NoClause"
 why_word NoPivot = codes "NoPivot"
+
+-- the word of why a hint doesn't pass
+abbrev pub hint_why_word : HintWhy → Word
+hint_why_word NotNormal = codes "NotNormal"
+hint_why_word hint.NoClause = codes "NoClause"
+hint_why_word NotUnit = codes "NotUnit"
+hint_why_word NoConflict = codes "NoConflict"
 
 -- the fault's name, and its numbers
 abbrev pub fault_words : Fault → Words
@@ -44,8 +55,10 @@ fault_words (PositiveFalse i) = codes "PositiveFalse" ∷ decimal i ∷ []
 fault_words (NegativeFalse i) = codes "NegativeFalse" ∷ decimal i ∷ []
 fault_words (BadChain refutation chain step why) =
     codes "BadChain" ∷ decimal refutation ∷ decimal chain ∷ decimal step ∷ why_word why ∷ []
+fault_words (BadHint refutation clause hint why) =
+    codes "BadHint" ∷ decimal refutation ∷ decimal clause ∷ decimal hint ∷ hint_why_word why ∷ []
 fault_words (NotEmpty j) = codes "NotEmpty" ∷ decimal j ∷ []
 
--- a fault behind the word `rejected`, and behind the number of its certificate where there are several
+-- a fault after the word `rejected`, and after the number of its certificate where there are several
 abbrev pub fault_line : Words → Fault → List ℕ
 fault_line numbers fault = line (codes "rejected" ∷ (numbers ++ fault_words fault))

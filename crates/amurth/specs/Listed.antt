@@ -45,6 +45,6 @@ pub record IsDeclined (p : Problem) (status : Status) (written : List ℕ) : Typ
 abbrev pub IsListing : Problem → Status → List ℕ → Type 0
 IsListing p status written = AreListed p status written ⊎ IsDeclined p status written
 
--- what `list` writes for an input, by the status behind it
+-- what `list` writes for an input, by the status after it
 abbrev pub IsListDue : Status → List ℕ → List ℕ → Type 0
 IsListDue = IsAnswer Reads problem_of IsListing

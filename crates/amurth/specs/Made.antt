@@ -13,6 +13,7 @@ use Rattle.am_tree.specs.Counts.{tuple_count}
 use Rattle.amurth.specs.Synthesised.{HasEnded, certificate}
 use Rattle.amurth.specs.declared.status.Status.{Status}
 
+-- a key word and a number
 abbrev pub number_row : Word → ℕ → Words
 number_row key n = key ∷ decimal n ∷ []
 
@@ -36,7 +37,7 @@ IsMadeText n (Turns trace) written = written ≡ certificate_text (certificate (
 IsMadeText n (Conflicts trace asked log) written =
     written ≡ certificate_text (certificate (made n) (Conflicts trace asked log))
 
--- what `make` writes for a number, by the status behind it
+-- what `make` writes for a number, by the status after it
 pub record IsMakeDue (n : ℕ) (status : Status) (written : List ℕ) : Type 0 where
   pub outcome : Outcome
   pub synthesis : HasEnded (made n) status outcome

@@ -8,16 +8,19 @@ use Rattle.amurth.specs.Command.{IsCommand}
 use Rattle.amurth.specs.Listed.{IsListDue}
 use Rattle.amurth.specs.Made.{IsMakeDue}
 use Rattle.amurth.specs.Synthesised.{IsSynthDue}
+use Rattle.amurth.specs.Translated.{IsTranslateDue}
 use Rattle.amurth.specs.declared.command.Command.{Command}
 use Rattle.amurth.specs.declared.command.Command.TheVariants.{Analyse, Check, List as ListCommand, Make, Synth}
+use Rattle.amurth.specs.declared.command.Command.TheVariants.{Translate}
 use Rattle.amurth.specs.declared.status.Status.{Status}
 use Rattle.amurth.specs.declared.status.Status.TheVariants.{Done, NoMemory, ReadFault, Refused, Rejected}
 use Rattle.amurth.specs.declared.status.Status.TheVariants.{SpentConflicts, SpentTurns, Usage, WriteFault}
 
--- what a command writes for an input, by the status behind it; `make` has no input
+-- what a command writes for an input, by the status after it; `make` has no input
 abbrev pub IsDue : Command → Status → List ℕ → List ℕ → Type 0
 IsDue Synth = IsSynthDue
 IsDue Check = IsCheckDue
+IsDue Translate = IsTranslateDue
 IsDue Analyse = IsAnalyseDue
 IsDue ListCommand = IsListDue
 IsDue (Make n) = λ status input. IsMakeDue n status
@@ -26,14 +29,16 @@ IsDue (Make n) = λ status input. IsMakeDue n status
 abbrev pub input_of : Command → Option (List ℕ) → Option (List ℕ)
 input_of Synth left = left
 input_of Check left = left
+input_of Translate left = left
 input_of Analyse left = left
 input_of ListCommand left = left
 input_of (Make n) left = Some []
 
--- the statuses that a command may end with behind a whole text
+-- the statuses that a command may end with after a whole text
 abbrev pub ends_of : Command → List Status
 ends_of Synth = Done ∷ Refused ∷ SpentTurns ∷ SpentConflicts ∷ []
 ends_of Check = Done ∷ Refused ∷ Rejected ∷ []
+ends_of Translate = Done ∷ Refused ∷ Rejected ∷ []
 ends_of Analyse = Done ∷ Refused ∷ Rejected ∷ []
 ends_of ListCommand = Done ∷ Refused ∷ []
 ends_of (Make n) = Done ∷ SpentTurns ∷ SpentConflicts ∷ []
@@ -67,6 +72,7 @@ IsSilent status = (status ≡ Usage) ⊎ ((status ≡ ReadFault) ⊎ (status ≡
 abbrev pub HasRead : Command → Option (List ℕ) → Type 0
 HasRead Synth left = IsAtEnd left
 HasRead Check left = IsAtEnd left
+HasRead Translate left = IsAtEnd left
 HasRead Analyse left = IsAtEnd left
 HasRead ListCommand left = IsAtEnd left
 HasRead (Make n) left = Unit {0}

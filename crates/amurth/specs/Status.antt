@@ -4,6 +4,7 @@ use Rattle.amurth.specs.declared.status.Status.{Status}
 use Rattle.amurth.specs.declared.status.Status.TheVariants.{Done, NoMemory, ReadFault, Refused, Rejected}
 use Rattle.amurth.specs.declared.status.Status.TheVariants.{SpentConflicts, SpentTurns, Usage, WriteFault}
 
+-- the exit code of each status
 abbrev pub exit_code : Status → ℕ
 exit_code Done = 0
 exit_code Usage = 2

@@ -2,6 +2,7 @@
 use Rattle.std.specs.Prelude.{◌≡◌, ℕ, ◌+◌, ◌*◌, ◌^◌, ◌≤◌, List}
 use Rattle.am_cert.specs.Certificate.{Certificate}
 use Rattle.am_cert.specs.Printing.{certificate_text}
+use Rattle.am_cert.specs.declared.answer.Proofs.TheVariants.{Chains}
 use Rattle.am_cert.specs.declared.version.Version.TheVariants.{Two}
 use Rattle.am_dual.specs.Synthesis.{AreConflictsSpent, AreTurnsSpent, IsSynthesis, most_inputs}
 use Rattle.am_problem.specs.Problem.{Problem}
@@ -22,7 +23,7 @@ status_of (Conflicts trace asked log) = SpentConflicts
 
 -- the certificate of an outcome, whose formulas fold constants
 abbrev pub certificate : Problem → Outcome → Certificate
-certificate p o = record { version = Two; problem = p; outcome = o }
+certificate p o = record { version = Two; problem = p; outcome = o; proofs = Chains }
 
 -- how a synthesis ended; with K tuples of trees K * (K + 1) turns are never spent, nor 3 ^ I derived clauses where no
 -- circuit has more than I inputs
@@ -42,6 +43,6 @@ pub record IsCertified (p : Problem) (status : Status) (written : List ℕ) : Ty
 abbrev pub IsSynthesised : Status → List ℕ → List ℕ → Type 0
 IsSynthesised = IsAnsweredBy Reads IsCertified
 
--- what `synth` writes for an input, by the status behind it
+-- what `synth` writes for an input, by the status after it
 abbrev pub IsSynthDue : Status → List ℕ → List ℕ → Type 0
 IsSynthDue = IsAnswer Reads problem_of IsCertified

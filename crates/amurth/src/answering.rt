@@ -17,6 +17,7 @@ use crate::listing::listed;
 use crate::making::made;
 use crate::response::Response;
 use crate::synthesising::synthesised;
+use crate::translating::translated;
 use am_cert::MOST_BYTES;
 use am_io::{ReadEnd, Source, read_all};
 use std::alloc::Global;
@@ -36,7 +37,7 @@ pub fn answer<R: Source>(
     requires source { R.faults input.old < 2 ^ 64 - 1 }
     requires numbered { IsNumbered command }
 
-    // A response comes behind an input that was read to its end, and is due to it.
+    // A response comes after an input that was read to its end, and is due to it.
     ensures due { IfOk result (λ r. IsDueTo command (R.left input.old) r.status r.text.items) }
     ensures end { OnOk result (HasRead command (R.left input.new)) }
     ensures made { (n : ℕ) → command ≡ Make n → input.new ≡ input.old }
@@ -57,6 +58,7 @@ pub fn answer<R: Source>(
     match command {
         Command::Synth => Ok(synthesised(alloc, &read_all(alloc, input, MOST_BYTES)?)?),
         Command::Check => Ok(checked(alloc, &read_all(alloc, input, MOST_BYTES)?)?),
+        Command::Translate => Ok(translated(alloc, &read_all(alloc, input, MOST_BYTES)?)?),
         Command::Analyse => Ok(analysed(alloc, &read_all(alloc, input, MOST_BYTES)?)?),
         Command::List => Ok(listed(alloc, &read_all(alloc, input, MOST_BYTES)?)?),
         Command::Make(number) => Ok(made(alloc, number)?),

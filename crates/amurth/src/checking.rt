@@ -4,7 +4,6 @@ ghost use Rattle.std.specs.Prelude.{◌≡◌, ◌≤◌, IfOk, length};
 ghost use Rattle.am_cert.specs.declared.limits.TheConstants.{MOST_BYTES};
 ghost use Rattle.amurth.specs.Checked.{IsCheckDue, IsJudged, accepted_text};
 
-use crate::lines::fault_line;
 use crate::response::Response;
 use crate::status::Status;
 use am_cert::{Certificate, CheckFail, check, read_certificate};
@@ -33,10 +32,7 @@ fn judged(alloc: Global, certificate: &Certificate) -> Result<Response, AllocErr
             text: accepted_text(alloc)?,
             status: Status::Done,
         }),
-        Err(CheckFail::Rejected(fault)) => Ok(Response {
-            text: fault_line(alloc, &[], fault)?,
-            status: Status::Rejected,
-        }),
+        Err(CheckFail::Rejected(fault)) => Response::rejected(alloc, fault),
         Err(CheckFail::NoMemory) => Err(AllocError),
     }
 }

@@ -18,6 +18,8 @@ pub enum Command {
     Synth,
     /// Check a certificate.
     Check,
+    /// Write a certificate with hints in place of its chains.
+    Translate,
     /// Check certificates, and analyse a flow with their transformers.
     Analyse,
     /// Write all tuples of trees of a small problem whose terms are best.
@@ -96,6 +98,9 @@ fn named(word: &[u8]) -> Option<Command>
     }
     if word == b"check".as_slice() {
         return Some(Command::Check);
+    }
+    if word == b"translate".as_slice() {
+        return Some(Command::Translate);
     }
     if word == b"analyse".as_slice() {
         return Some(Command::Analyse);

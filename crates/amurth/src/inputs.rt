@@ -2,6 +2,7 @@
 
 ghost use Rattle.std.specs.Prelude.{◌≡◌, ◌<◌, ◌≤◌, ◌^◌, ◌++◌, [], ◌∷◌, IfOk, OnOk, codes, length, map};
 ghost use Rattle.am_cert.specs.StoredDraft.{seen_draft};
+ghost use Rattle.am_cert.specs.Texts.{IsShort};
 ghost use Rattle.am_cert.specs.declared.limits.TheConstants.{MOST_BYTES};
 ghost use Rattle.am_flow.specs.Flows.{IsFlow};
 ghost use Rattle.am_syntax.specs.Pieces.{next_is, repeat_from};
@@ -58,9 +59,9 @@ fn read_text<'a>(alloc: Global, text: &'a [u8]) -> Result<Drafts<'a>, ReadError>
     close(Ok(drafts), &cursor)
 }
 
-/// Certificates, and a flow behind them.
+/// Certificates, and a flow after them.
 fn read_drafts<'a>(alloc: Global, text: &mut Cursor<'a>) -> Result<Drafts<'a>, ReadError>
-    requires { length text.old.tokens < 2 ^ 32 }
+    requires { IsShort text.old }
     ensures value { ReadsAt seen_drafts result text.new (drafts text.old) }
     ensures flow { IfOk result (λ d. IsFlow (length d.certificates.items) d.flow) }
     ensures few { IfOk result (λ d. length d.certificates.items ≤ MOST_CERTIFICATES) }
@@ -75,7 +76,7 @@ fn read_certificates<'a>(
     alloc: Global,
     text: &mut Cursor<'a>,
 ) -> Result<Vec<CertificateDraft<'a>>, ReadError>
-    requires { length text.old.tokens < 2 ^ 32 }
+    requires { IsShort text.old }
     ensures value { ReadsAt (λ ds. map seen_draft ds.items) result text.new
         (repeat_from (next_is (codes "certificate")) certificate_behind [] text.old) }
     ensures few { IfOk result (λ ds. length ds.items ≤ MOST_CERTIFICATES) }
@@ -88,13 +89,13 @@ fn read_certificates<'a>(
     Ok(drafts)
 }
 
-/// A certificate behind others, of which there may be one more.
+/// A certificate after others, of which there may be one more.
 fn certificate_behind<'a>(
     alloc: Global,
     text: &mut Cursor<'a>,
     seen: &[CertificateDraft<'a>],
 ) -> Result<CertificateDraft<'a>, ReadError>
-    requires { length text.old.tokens < 2 ^ 32 }
+    requires { IsShort text.old }
     ensures value { ReadsAt seen_draft result text.new (certificate_behind (map seen_draft seen.now) text.old) }
     ensures room { OnOk result (length seen.now < MOST_CERTIFICATES) }
 {

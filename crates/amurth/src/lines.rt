@@ -5,10 +5,11 @@ ghost use Rattle.am_syntax.specs.Canonical.{line};
 ghost use Rattle.am_query.specs.declared.fault.Fault.TheVariants.{BadChain, Unfinished};
 ghost use Rattle.am_syntax.specs.Lines.{is_apart};
 ghost use Rattle.am_syntax.specs.declared.refusal.Refusal.TheVariants.{Long};
-ghost use Rattle.amurth.specs.Lines.{fault_line, refusal_line, refused, why_word};
+ghost use Rattle.amurth.specs.Lines.{fault_line, hint_why_word, refusal_line, refused, why_word};
 
 use am_cert::MOST_BYTES;
 use am_chain::Why;
+use am_hint::HintWhy;
 use am_query::Fault;
 use am_syntax::{Entry, Refusal, print_line};
 use am_text::Writer;
@@ -52,7 +53,7 @@ fn refused(alloc: Global, name: &[u8], n: u64) -> Result<Vec<u8>, AllocError>
     Ok(out.finish())
 }
 
-/// The line of a fault, behind the number of its certificate where there are several.
+/// The line of a fault, after the number of its certificate where there are several.
 pub fn fault_line(alloc: Global, numbers: &[u32], fault: Fault) -> Result<Vec<u8>, AllocError>
     ensures { IfOk result (λ line. line.items ≡ fault_line (map decimal numbers.now) fault) }
 {
@@ -66,7 +67,25 @@ pub fn fault_line(alloc: Global, numbers: &[u32], fault: Fault) -> Result<Vec<u8
             chain,
             step,
             why,
-        } => bad_chain(alloc, numbers, refutation, chain, step, why),
+        } => within(
+            alloc,
+            numbers,
+            b"BadChain",
+            &[refutation, chain, step],
+            why_word(why),
+        ),
+        Fault::BadHint {
+            refutation,
+            clause,
+            hint,
+            why,
+        } => within(
+            alloc,
+            numbers,
+            b"BadHint",
+            &[refutation, clause, hint],
+            hint_why_word(why),
+        ),
         Fault::NotEmpty(j) => rejected(alloc, numbers, b"NotEmpty", j),
     }
 }
@@ -102,37 +121,50 @@ fn rejected<'a>(
     Ok(out.finish())
 }
 
-/// The line of a chain that isn't valid, at this refutation, chain and step.
-fn bad_chain(
+/// The line of a fault in a refutation: its name, where it is, and its cause.
+fn within<'a>(
     alloc: Global,
-    numbers: &[u32],
-    refutation: u32,
-    chain: u32,
-    step: u32,
-    why: Why,
+    numbers: &'a [u32],
+    name: &'a [u8],
+    places: &'a [u32],
+    cause: &'a [u8],
 ) -> Result<Vec<u8>, AllocError>
-    ensures { IfOk result (λ line. line.items ≡ fault_line (map decimal numbers.now)
-        (BadChain refutation chain step why)) }
+    requires name { IsTrue (is_apart name.now) }
+    requires cause { IsTrue (is_apart cause.now) }
+    ensures { IfOk result (λ text. text.items ≡ line (codes "rejected" ∷
+        (map decimal numbers.now ++ name.now ∷ (map decimal places.now ++ cause.now ∷ [])))) }
 {
     let mut out = Writer::new(alloc);
     let entries = [
         Entry::Numbers(numbers),
-        Entry::Word(b"BadChain"),
-        Entry::Number(u64::from(refutation)),
-        Entry::Number(u64::from(chain)),
-        Entry::Number(u64::from(step)),
-        Entry::Word(why_word(why)),
+        Entry::Word(name),
+        Entry::Numbers(places),
+        Entry::Word(cause),
     ];
     print_line(&mut out, b"rejected", &entries)?;
     Ok(out.finish())
 }
 
-/// The name of a cause.
+/// The name of a chain's cause.
 fn why_word(why: Why) -> &'static [u8]
-    ensures { result.now ≡ why_word why }
+    ensures word { result.now ≡ why_word why }
+    ensures apart { IsTrue (is_apart result.now) }
 {
     match why {
         Why::NoClause => b"NoClause",
         Why::NoPivot => b"NoPivot",
+    }
+}
+
+/// The name of a hint's cause.
+fn hint_why_word(why: HintWhy) -> &'static [u8]
+    ensures word { result.now ≡ hint_why_word why }
+    ensures apart { IsTrue (is_apart result.now) }
+{
+    match why {
+        HintWhy::NotNormal => b"NotNormal",
+        HintWhy::NoClause => b"NoClause",
+        HintWhy::NotUnit => b"NotUnit",
+        HintWhy::NoConflict => b"NoConflict",
     }
 }

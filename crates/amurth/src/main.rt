@@ -1,11 +1,12 @@
 //! Amurth synthesises best abstract transformers, and checks the certificates that show them.
 //!
 //! ```text
-//! amurth synth < problem      # writes the certificate of a best transformer
-//! amurth check < certificate  # writes that it is accepted, or why it isn't
-//! amurth list < problem       # writes all best transformers of a small problem
-//! amurth make 7               # writes a summary of the problem with this number
-//! amurth analyse < flow       # reads certificates and then a flow, and writes the flow's table
+//! amurth synth < problem          # writes the certificate of a best transformer
+//! amurth check < certificate      # writes that it is accepted, or why it isn't
+//! amurth translate < certificate  # writes it with hints in place of its chains, or why it isn't accepted
+//! amurth list < problem           # writes all best transformers of a small problem
+//! amurth make 7                   # writes a summary of the problem with this number
+//! amurth analyse < flow           # reads certificates and then a flow, and writes the flow's table
 //! ```
 //!
 //! The exit codes are those of [`status::Status::code`].
@@ -26,6 +27,7 @@ mod status;
 mod synthesising;
 #[cfg(test)]
 mod tests;
+mod translating;
 
 use am_io::{StdSink, StdSource};
 use command::{CommandWords, command_words};

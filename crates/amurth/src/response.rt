@@ -1,15 +1,16 @@
 //! What is written for an input.
 
-ghost use Rattle.std.specs.Prelude.{◌≡◌, IfOk};
-ghost use Rattle.amurth.specs.Lines.{refusal_line};
-ghost use Rattle.amurth.specs.declared.status.Status.TheVariants.{Refused};
+ghost use Rattle.std.specs.Prelude.{◌≡◌, [], IfOk};
+ghost use Rattle.amurth.specs.Lines.{fault_line, refusal_line};
+ghost use Rattle.amurth.specs.declared.status.Status.TheVariants.{Refused, Rejected};
 
-use crate::lines::refusal_line;
+use crate::lines::{fault_line, refusal_line};
 use crate::status::Status;
+use am_query::Fault;
 use am_syntax::Refusal;
 use std::alloc::{AllocError, Global};
 
-/// A whole text, and the status behind it once it is written.
+/// A whole text, and the status to end with once it is written.
 #[derive(Drop)]
 pub struct Response {
     pub text: Vec<u8>,
@@ -24,6 +25,16 @@ impl Response {
         Ok(Response {
             text: refusal_line(alloc, refusal)?,
             status: Status::Refused,
+        })
+    }
+
+    /// The line of a certificate's first fault.
+    pub fn rejected(alloc: Global, fault: Fault) -> Result<Response, AllocError>
+        ensures { IfOk result (λ r. (r.status ≡ Rejected) × (r.text.items ≡ fault_line [] fault)) }
+    {
+        Ok(Response {
+            text: fault_line(alloc, &[], fault)?,
+            status: Status::Rejected,
         })
     }
 }

@@ -18,7 +18,7 @@ use std::alloc::Global;
 
 /// Runs a command on an input, and writes its whole output or, after a fault of the sink, a prefix.
 ///
-/// With the word `synth` or `list` the input is a problem, with `check` a certificate, with `analyse`
+/// With the word `synth` or `list` the input is a problem, with `check` or `translate` a certificate, with `analyse`
 /// certificates and a flow. With `make` and a number nothing is read.
 pub fn run<R: Source, W: Sink>(
     alloc: Global,

@@ -38,7 +38,7 @@ fn certified(alloc: Global, problem: Problem) -> Result<Response, AllocError>
     Ok(Response { text, status })
 }
 
-/// The status behind an outcome.
+/// The status of an outcome.
 pub fn status_of(outcome: &Outcome) -> Status
     ensures { result ≡ status_of outcome.now }
 {

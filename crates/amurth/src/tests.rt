@@ -17,11 +17,14 @@ static SYNTH: Case = (
     "amurth 1 width 2 operation 1 x0 domain parity start S depth 1 turns 0 conflicts 1 rule S (not S) end",
 );
 
-static CHECK: Case = (
-    "check",
-    "certificate 1 amurth 1 width 2 operation 1 x0 domain parity start S depth 1 turns 0 conflicts 1 rule S (not S) \
-end answer none log fit chain 1 end",
-);
+/// A certificate that is accepted.
+const CERTIFICATE: &str =
+    "certificate 1 amurth 1 width 2 operation 1 x0 domain parity start S depth 1 turns 0 \
+conflicts 1 rule S (not S) end answer none log fit chain 1 end";
+
+static CHECK: Case = ("check", CERTIFICATE);
+
+static TRANSLATE: Case = ("translate", CERTIFICATE);
 
 static LIST: Case = (
     "list",
@@ -68,7 +71,7 @@ const NO_CALL: u32 = 9999;
 
 #[test]
 fn each_read_may_fail(rt: HostRuntime) -> Result<(), Fail> {
-    for case in [SYNTH, CHECK, LIST, ANALYSE] {
+    for case in [SYNTH, CHECK, TRANSLATE, LIST, ANALYSE] {
         let reads = case.1.len() as u32 / 4 + 1;
         for call in 0..reads {
             let (status, written) = with_faults(rt.alloc(), case, call, NO_CALL)?;
@@ -83,7 +86,7 @@ fn each_read_may_fail(rt: HostRuntime) -> Result<(), Fail> {
 
 #[test]
 fn each_write_may_fail(rt: HostRuntime) -> Result<(), Fail> {
-    for case in [SYNTH, CHECK, LIST, ANALYSE] {
+    for case in [SYNTH, CHECK, TRANSLATE, LIST, ANALYSE] {
         let (_, whole) = with_faults(rt.alloc(), case, NO_CALL, NO_CALL)?;
         let writes = u32::try_from(whole.len()).unwrap_or(NO_CALL) / 5 + 1;
         for call in 0..writes {

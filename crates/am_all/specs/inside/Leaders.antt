@@ -27,6 +27,7 @@ pub record AreFacts (p : Problem) (sets : List WordSet) (cases : List Case) : Ty
 abbrev pub numbers_of : Problem → List Case → List Term → List ℕ
 numbers_of p cases terms = map (λ case. number_of p.width (map (λ t. val p.width t case.fields) terms)) cases
 
+-- the numbers of the results of a tuple's terms
 abbrev pub tree_numbers : Problem → List Case → List Tree → List ℕ
 tree_numbers p cases ts = numbers_of p cases (terms_of p.rules p.starts ts)
 

@@ -11,12 +11,15 @@ use Rattle.std.specs.Int.Bits.{and_step, xor_add_and, and_zero_l, or_comm}
 use Rattle.std.specs.Int.Count.{ones_step}
 use Rattle.am_bv.specs.Words.{complement}
 
+-- each bit of 0 is 0
 pub bits_of_zero : (n i : ℕ) → n ≡ 0 → bit_at n i ≡ 0
 bits_of_zero n i e = ap (λ m. bit_at m i) e ∙ bit_at-zero i
 
+-- a number whose bits are all 0 is 0
 pub zero_from_bits : (n : ℕ) → ((i : ℕ) → bit_at n i ≡ 0) → n ≡ 0
 zero_from_bits n h = same_from_bits n 0 (λ i. h i ∙ sym (bit_at-zero i))
 
+-- a bit is 0 or 1
 pub bit_cases : (n i : ℕ) → (bit_at n i ≡ 0) ⊎ (bit_at n i ≡ 1)
 bit_cases n i = zero_or_one (bit_at n i) (bit_at-lt n i)
   where
@@ -56,9 +59,17 @@ set_bits c mask = (
 )
 
 -- two words agree on all bits of a mask
-pub same_bits : (c d mask : ℕ) → (bit_and (bit_xor c d) mask ≡ 0) ↔ ((i : ℕ) → bit_at mask i ≡ 1 → bit_at c i ≡ bit_at d i)
+pub same_bits : (c d mask : ℕ)
+    → (bit_and (bit_xor c d) mask ≡ 0) ↔ ((i : ℕ) → bit_at mask i ≡ 1 → bit_at c i ≡ bit_at d i)
 same_bits c d mask = (
-  λ e i h. omega (arith, bits_of_zero _ i e, bit_at_and (bit_xor c d) mask i, bit_at_xor c d i, bit_at-lt c i, bit_at-lt d i),
+  λ e i h. omega (
+    arith,
+    bits_of_zero _ i e,
+    bit_at_and (bit_xor c d) mask i,
+    bit_at_xor c d i,
+    bit_at-lt c i,
+    bit_at-lt d i,
+  ),
   λ h. zero_from_bits _ (λ i. elim (bit_cases mask i) [
     | inl e ↦ omega (arith, bit_at_and (bit_xor c d) mask i)
     | inr e ↦ omega (arith, bit_at_and (bit_xor c d) mask i, bit_at_xor c d i, bit_at-lt c i, h i e)
@@ -67,14 +78,18 @@ same_bits c d mask = (
 
 -- the complement flips each bit
 complement-xor : (w d : ℕ) → d < 2 ^ w → complement w d ≡ bit_xor (2 ^ w - 1) d
-complement-xor w d h = omega (arith, xor_add_and (2 ^ w - 1) d, and_comm (2 ^ w - 1) d, and_mask d w, mod-eq_of_lt h, pow_pos w)
+complement-xor w d h =
+    omega (arith, xor_add_and (2 ^ w - 1) d, and_comm (2 ^ w - 1) d, and_mask d w, mod-eq_of_lt h, pow_pos w)
 
+-- a bit of the complement is 1 where the word's is 0, and 0 where it is 1
 pub bit_at-complement : (w d i : ℕ) → d < 2 ^ w → i < w → bit_at (complement w d) i ≡ 1 - bit_at d i
 bit_at-complement w d i h below =
-    ap (λ n. bit_at n i) (complement-xor w d h) ∙ omega (arith, bit_at_xor (2 ^ w - 1) d i, bit_at_ones w i below, bit_at-lt d i)
+    ap (λ n. bit_at n i) (complement-xor w d h)
+    ∙ omega (arith, bit_at_xor (2 ^ w - 1) d i, bit_at_ones w i below, bit_at-lt d i)
 
 -- the bits of a word without those of another
-pub bit_at-without : (w c d i : ℕ) → c < 2 ^ w → d < 2 ^ w → bit_at (bit_and c (complement w d)) i ≡ min (bit_at c i) (1 - bit_at d i)
+pub bit_at-without : (w c d i : ℕ) → c < 2 ^ w → d < 2 ^ w
+    → bit_at (bit_and c (complement w d)) i ≡ min (bit_at c i) (1 - bit_at d i)
 bit_at-without w c d i h k =
     elim (cases_lt i w) [
       | inl below ↦ bit_at_and c (complement w d) i ∙ ap (min (bit_at c i)) (bit_at-complement w d i k below)
@@ -82,9 +97,12 @@ bit_at-without w c d i h k =
     ]
 
 -- the width doesn't matter for what is left of a word
-pub without-widths : (v w c d : ℕ) → c < 2 ^ v → d < 2 ^ v → c < 2 ^ w → d < 2 ^ w → bit_and c (complement v d) ≡ bit_and c (complement w d)
-without-widths v w c d h k h' k' = same_from_bits _ _ (λ i. bit_at-without v c d i h k ∙ sym (bit_at-without w c d i h' k'))
+pub without-widths : (v w c d : ℕ) → c < 2 ^ v → d < 2 ^ v → c < 2 ^ w → d < 2 ^ w
+    → bit_and c (complement v d) ≡ bit_and c (complement w d)
+without-widths v w c d h k h' k' =
+    same_from_bits _ _ (λ i. bit_at-without v c d i h k ∙ sym (bit_at-without w c d i h' k'))
 
+-- a number is below 2 to its own power
 pub below_power : (n : ℕ) → n < 2 ^ n
 below_power zero = omega arith
 below_power (suc n) = omega (arith, below_power n, pow-suc 2 n)

@@ -18,18 +18,20 @@ use Rattle.am_bits.specs.lemmas.Masks.{mask_by_next, kept_by_mask, within_mask, 
 use Rattle.am_domain.proofs.Laws.{pair-IsTuple, by_two, by_three}
 use Rattle.am_bv.proofs.Laws.{val-unary, val-binary}
 use Rattle.am_bits.specs.lemmas.Terms.{equality-tells, equalities-tell, iff-trans}
-use Rattle.am_bits.specs.Congruences.{all_congruences}
-use Rattle.am_bits.specs.Congruences.{congruences, mask, residue, IsMask, IsCongruence, IsCongruent, low, agreed}
-use Rattle.am_bits.specs.Congruences.{modulo, congruence_top, congruence_of_word, congruence_join, congruence_tidy}
-use Rattle.am_bits.specs.Congruences.{congruence_rank, congruence_valid_term, congruence_member_term}
+use Rattle.am_bits.specs.Congruences.{all_congruences, congruences, mask, residue, IsMask, IsCongruence, IsCongruent}
+use Rattle.am_bits.specs.Congruences.{low, agreed, modulo, congruence_join, congruence_valid_term}
+use Rattle.am_bits.specs.Congruences.{congruence_member_term}
 
 -- a mask and a residue that is at most the mask are a value
 value : (w m r : ℕ) → m < 2 ^ w → IsMask w m → r ≤ m → IsAbstract congruences w (m ∷ r ∷ [])
-value w m r h masked within = record { tuple = pair-IsTuple w m r h (omega arith); valid = record { masked = masked; within = within } }
+value w m r h masked within =
+    record { tuple = pair-IsTuple w m r h (omega arith); valid = record { masked = masked; within = within } }
 
 -- a residue modulo the low ones of a word
 low_value : (w x r : ℕ) → x < 2 ^ w → IsAbstract congruences w (modulo (low x) r)
-low_value w x r h = value w (low x) (bit_and r (low x)) (omega (arith, low-within x, and_le_l x (low x), h)) (low-mask x w h) (and_le_r r (low x))
+low_value w x r h =
+    value w (low x) (bit_and r (low x)) (omega (arith, low-within x, and_le_l x (low x), h)) (low-mask x w h)
+    (and_le_r r (low x))
 
 -- the low ones of a word are bits of it
 low_bit : (x i : ℕ) → bit_at (low x) i ≡ 1 → bit_at x i ≡ 1
@@ -58,7 +60,12 @@ module _ (w : ℕ) (a b : List ℕ) (first : IsAbstract congruences w a) (second
   -- the bits that agree are a word
   agreed-word : agreed w a b < 2 ^ w
   agreed-word =
-      omega (arith, and_le_l (bit_and (mask a) (mask b)) (complement w (bit_xor (residue a) (residue b))), and_le_l (mask a) (mask b), first.tuple.words 0)
+      omega (
+        arith,
+        and_le_l (bit_and (mask a) (mask b)) (complement w (bit_xor (residue a) (residue b))),
+        and_le_l (mask a) (mask b),
+        first.tuple.words 0,
+      )
 
   -- the residues agree on a bit of both masks
   record Agrees (i : ℕ) : Type 0 where
@@ -72,7 +79,8 @@ module _ (w : ℕ) (a b : List ℕ) (first : IsAbstract congruences w a) (second
       let differ = bit_xor (residue a) (residue b) in
       let both_word : both < 2 ^ w = omega (arith, and_le_l (mask a) (mask b), first.tuple.words 0) in
       let bit = low_bit (agreed w a b) i h in
-      let parts = bit_at-without w both differ i both_word (xor_lt w (residue a) (residue b) (first.tuple.words 1) (second.tuple.words 1)) in
+      let parts = bit_at-without w both differ i both_word
+      (xor_lt w (residue a) (residue b) (first.tuple.words 1) (second.tuple.words 1)) in
       let masks = bit_at_and (mask a) (mask b) i in
       let residues = bit_at_xor (residue a) (residue b) i in
       record {
@@ -84,15 +92,22 @@ module _ (w : ℕ) (a b : List ℕ) (first : IsAbstract congruences w a) (second
   -- the join is the first value where it keeps the mask
   unchanged : low (agreed w a b) ≡ mask a → congruence_join w a b ≡ a
   unchanged whole =
-      let kept : bit_and (residue a) (mask a) ≡ residue a = kept_by_mask w (residue a) (mask a) first.valid.masked first.valid.within in
-      let same : a ≡ mask a ∷ residue a ∷ [] = by_two (λ a. a ≡ mask a ∷ residue a ∷ []) (λ x y. refl) a first.tuple.counted in
+      let kept : bit_and (residue a) (mask a) ≡ residue a =
+      kept_by_mask w (residue a) (mask a) first.valid.masked first.valid.within in
+      let same : a ≡ mask a ∷ residue a ∷ [] =
+      by_two (λ a. a ≡ mask a ∷ residue a ∷ []) (λ x y. refl) a first.tuple.counted in
       ap (λ m. modulo m (residue a)) whole ∙ ap (λ r. mask a ∷ r ∷ []) kept ∙ sym same
 
   -- a join that changes the first value has a smaller mask
   fewer_known : congruence_join w a b ≢ a → count_ones (low (agreed w a b)) < count_ones (mask a)
   fewer_known changed =
-      let part : bit_and (mask a) (low (agreed w a b)) ≡ low (agreed w a b) = (set_bits (mask a) (low (agreed w a b))).1 (λ i h. (agrees i h).in_first) in
-      omega (arith, fewer_ones (mask a) (low (agreed w a b)) (λ e. changed (unchanged (sym part ∙ e))), ap count_ones part)
+      let part : bit_and (mask a) (low (agreed w a b)) ≡ low (agreed w a b) =
+      (set_bits (mask a) (low (agreed w a b))).1 (λ i h. (agrees i h).in_first) in
+      omega (
+        arith,
+        fewer_ones (mask a) (low (agreed w a b)) (λ e. changed (unchanged (sym part ∙ e))),
+        ap count_ones part,
+      )
 
 joins_above : JoinsAbove all_congruences
 joins_above w width a b first second =
@@ -100,7 +115,8 @@ joins_above w width a b first second =
     record {
       value = low_value w (agreed w a b) (residue a) (agreed-word w a b first second);
       first = λ c below h i k. let e = agrees w a b first second i k in h i e.in_first ∙ residue_bit m (residue a) i k;
-      second = λ c below h i k. let e = agrees w a b first second i k in h i e.in_second ∙ sym e.same ∙ residue_bit m (residue a) i k;
+      second = λ c below h i k.
+          let e = agrees w a b first second i k in h i e.in_second ∙ sym e.same ∙ residue_bit m (residue a) i k;
     }
 
 descends : Descends all_congruences
@@ -120,7 +136,8 @@ congruence_by_tests : (w m r : ℕ) → m < 2 ^ w → r < 2 ^ w →
     ((bit_and m ((m + 1) % 2 ^ w) ≡ 0) × (bit_and r (complement w m) ≡ 0)) ↔ IsCongruence w (m ∷ r ∷ [])
 congruence_by_tests w m r h k =
     let masks = mask_by_next w w m h h in (
-      λ tests. let masked = masks.0 tests.0 in record { masked = masked; within = (within_mask w r m masked k h).0 tests.1 },
+      λ tests.
+          let masked = masks.0 tests.0 in record { masked = masked; within = (within_mask w r m masked k h).0 tests.1 },
       λ valid. (masks.1 valid.masked, (within_mask w r m valid.masked k h).1 valid.within),
     )
 
@@ -146,19 +163,29 @@ tells_membership w width =
     record {
       fit = simp (fits-Node, fits-Const, fits-Field, zero_word);
       small = simp (nodes-Node, nodes-Const, nodes-Field) (lit≤ tt);
-      tells = λ env tuple. by_three (λ env. (val w congruence_member_term env ≢ 0) ↔ IsCongruent (take 2 env) (slice_index env 2))
-          (λ m r c. simp (val-binary, val-Const, val-Field) (iff-trans (equality-tells (bit_and (bit_xor c r) m) 0) (same_bits c r m)))
+      tells = λ env tuple.
+          by_three (λ env. (val w congruence_member_term env ≢ 0) ↔ IsCongruent (take 2 env) (slice_index env 2))
+          (λ m r c. simp (val-binary, val-Const, val-Field)
+          (iff-trans (equality-tells (bit_and (bit_xor c r) m) 0) (same_bits c r m)))
           env tuple.counted;
     }
 
 -- the members of a congruence are the words with its residue as their remainder
-pub congruent-remainder : (w : ℕ) (a : List ℕ) (c : ℕ) → IsCongruence w a → IsCongruent a c ↔ (c % (mask a + 1) ≡ residue a)
+pub congruent-remainder : (w : ℕ) (a : List ℕ) (c : ℕ) → IsCongruence w a →
+    IsCongruent a c ↔ (c % (mask a + 1) ≡ residue a)
 congruent-remainder w a c valid = (
   λ h. remainder ∙ same_from_bits _ _ (λ i. elim (bit_cases (mask a) i) [
     | inl zero_bit ↦ omega (arith, bit_at_and c (mask a) i, bit_at_and (residue a) (mask a) i)
     | inr one_bit ↦ omega (arith, bit_at_and c (mask a) i, bit_at_and (residue a) (mask a) i, h i one_bit)
   ]) ∙ kept,
-  λ e i one_bit. omega (arith, bit_at_and c (mask a) i, bit_at_and (residue a) (mask a) i, bit_at-lt c i, bit_at-lt (residue a) i, ap (λ n. bit_at n i) (sym remainder ∙ e ∙ sym kept)),
+  λ e i one_bit. omega (
+    arith,
+    bit_at_and c (mask a) i,
+    bit_at_and (residue a) (mask a) i,
+    bit_at-lt c i,
+    bit_at-lt (residue a) i,
+    ap (λ n. bit_at n i) (sym remainder ∙ e ∙ sym kept),
+  ),
 )
   where
     kept : bit_and (residue a) (mask a) ≡ residue a

@@ -20,9 +20,8 @@ use Rattle.am_bits.specs.lemmas.Bits.{kept_or_fewer}
 use Rattle.am_domain.proofs.Laws.{pair-IsTuple, by_two, by_three}
 use Rattle.am_bv.proofs.Laws.{val-binary}
 use Rattle.am_bits.specs.lemmas.Terms.{equality-tells, equalities-tell, iff-trans}
-use Rattle.am_bits.specs.KnownBits.{all_known_bits}
-use Rattle.am_bits.specs.KnownBits.{known_bits, zeros, ones, IsKnown, HasKnown, known_top, known_of_word, known_join}
-use Rattle.am_bits.specs.KnownBits.{known_tidy, known_rank, known_valid_term, known_member_term}
+use Rattle.am_bits.specs.KnownBits.{all_known_bits, known_bits, zeros, ones, IsKnown, HasKnown, known_valid_term}
+use Rattle.am_bits.specs.KnownBits.{known_member_term}
 
 -- two words without a common bit are a value
 value : (w z o : ℕ) → z < 2 ^ w → o < 2 ^ w → IsKnown (z ∷ o ∷ []) → IsAbstract known_bits w (z ∷ o ∷ [])
@@ -47,7 +46,10 @@ has_members w width a abstract = (
 has_top : HasTop all_known_bits
 has_top w width = (
   value w 0 0 (pow_pos w) (pow_pos w) (λ i both. omega (arith, both.0, bit_at-zero i)),
-  λ c below. record { clear = λ i h. absurd (omega (arith, h, bit_at-zero i)); set = λ i h. absurd (omega (arith, h, bit_at-zero i)) },
+  λ c below. record {
+    clear = λ i h. absurd (omega (arith, h, bit_at-zero i));
+    set = λ i h. absurd (omega (arith, h, bit_at-zero i));
+  },
 )
 
 -- a bit of a word isn't one of its complement
@@ -60,32 +62,46 @@ apart w c i h z =
 
 holds_words : HoldsWords all_known_bits
 holds_words w width c below = (
-  value w (complement w c) c (omega (arith, pow_pos w)) below (λ i both. omega (arith, apart w c i below both.0, both.1)),
+  value w (complement w c) c (omega (arith, pow_pos w)) below
+      (λ i both. omega (arith, apart w c i below both.0, both.1)),
   record { clear = λ i z. apart w c i below z; set = λ i o. o },
 )
 
 joins_above : JoinsAbove all_known_bits
 joins_above w width a b first second =
-    let z : (i : ℕ) → bit_at (bit_and (zeros a) (zeros b)) i ≡ 1 → (bit_at (zeros a) i ≡ 1) × (bit_at (zeros b) i ≡ 1) = λ i. in_both (zeros a) (zeros b) i in
-    let o : (i : ℕ) → bit_at (bit_and (ones a) (ones b)) i ≡ 1 → (bit_at (ones a) i ≡ 1) × (bit_at (ones b) i ≡ 1) = λ i. in_both (ones a) (ones b) i in
+    let z : (i : ℕ) → bit_at (bit_and (zeros a) (zeros b)) i ≡ 1 → (bit_at (zeros a) i ≡ 1) × (bit_at (zeros b) i ≡ 1) =
+    λ i. in_both (zeros a) (zeros b) i in
+    let o : (i : ℕ) → bit_at (bit_and (ones a) (ones b)) i ≡ 1 → (bit_at (ones a) i ≡ 1) × (bit_at (ones b) i ≡ 1) =
+    λ i. in_both (ones a) (ones b) i in
     record {
-      value = value w _ _ (omega (arith, and_le_l (zeros a) (zeros b), first.tuple.words 0)) (omega (arith, and_le_l (ones a) (ones b), first.tuple.words 1))
+      value =
+          value w _ _ (omega (arith, and_le_l (zeros a) (zeros b), first.tuple.words 0))
+          (omega (arith, and_le_l (ones a) (ones b), first.tuple.words 1))
           (λ i both. first.valid i ((z i both.0).0, (o i both.1).0));
       first = λ c below h. record { clear = λ i k. h.clear i (z i k).0; set = λ i k. h.set i (o i k).0 };
       second = λ c below h. record { clear = λ i k. h.clear i (z i k).1; set = λ i k. h.set i (o i k).1 };
     }
   where
     in_both : (m n i : ℕ) → bit_at (bit_and m n) i ≡ 1 → (bit_at m i ≡ 1) × (bit_at n i ≡ 1)
-    in_both m n i h = (omega (arith, h, bit_at_and m n i, bit_at-lt m i), omega (arith, h, bit_at_and m n i, bit_at-lt n i))
+    in_both m n i h =
+        (omega (arith, h, bit_at_and m n i, bit_at-lt m i), omega (arith, h, bit_at_and m n i, bit_at-lt n i))
 
 descends : Descends all_known_bits
 descends = record {
-  most = λ w width a abstract. omega (arith, ones-le w (zeros a) (abstract.tuple.words 0), ones-le w (ones a) (abstract.tuple.words 1), below_power w);
+  most = λ w width a abstract. omega (
+    arith,
+    ones-le w (zeros a) (abstract.tuple.words 0),
+    ones-le w (ones a) (abstract.tuple.words 1),
+    below_power w,
+  );
   falls = λ w width a b first second changed.
-      let same : a ≡ zeros a ∷ ones a ∷ [] = by_two (λ a. a ≡ zeros a ∷ ones a ∷ []) (λ x y. refl) a first.tuple.counted in
+      let same : a ≡ zeros a ∷ ones a ∷ [] =
+      by_two (λ a. a ≡ zeros a ∷ ones a ∷ []) (λ x y. refl) a first.tuple.counted in
       elim (kept_or_fewer w (zeros a) (zeros b) (first.tuple.words 0)) [
         | inl z ↦ elim (kept_or_fewer w (ones a) (ones b) (first.tuple.words 1)) [
-          | inl o ↦ absurd (changed (ap (λ x. x ∷ bit_and (ones a) (ones b) ∷ []) z ∙ ap (λ y. zeros a ∷ y ∷ []) o ∙ sym same))
+          | inl o ↦
+              absurd
+              (changed (ap (λ x. x ∷ bit_and (ones a) (ones b) ∷ []) z ∙ ap (λ y. zeros a ∷ y ∷ []) o ∙ sym same))
           | inr fewer ↦ omega (arith, ap count_ones z)
         ]
         | inr fewer ↦ elim (kept_or_fewer w (ones a) (ones b) (first.tuple.words 1)) [
@@ -99,9 +115,11 @@ descends = record {
 tidied : (w : ℕ) (raw : List ℕ) → IsTuple w 2 raw → (t : Bool) → (bit_and (zeros raw) (ones raw) == 0) ≡ t →
     MatchOption (cond t (Some raw) None) ((c : ℕ) → c < 2 ^ w → ¬ HasKnown raw c)
     (λ a. IsAbstract known_bits w a × ((c : ℕ) → c < 2 ^ w → HasKnown raw c → HasKnown a c))
-tidied w raw tuple true e = (record { tuple = tuple; valid = (disjoint_bits (zeros raw) (ones raw)).0 (eqb-true _ _ e) }, λ c below h. h)
+tidied w raw tuple true e =
+    (record { tuple = tuple; valid = (disjoint_bits (zeros raw) (ones raw)).0 (eqb-true _ _ e) }, λ c below h. h)
 tidied w raw tuple false e = λ c below h.
-    eqb-false _ _ e ((disjoint_bits (zeros raw) (ones raw)).1 (λ i both. omega (arith, h.clear i both.0, h.set i both.1)))
+    eqb-false _ _ e
+    ((disjoint_bits (zeros raw) (ones raw)).1 (λ i both. omega (arith, h.clear i both.0, h.set i both.1)))
 
 tidies : Tidies all_known_bits
 tidies w width raw tuple = tidied w raw tuple (bit_and (zeros raw) (ones raw) == 0) refl
@@ -113,7 +131,8 @@ tells_validity w width =
       fit = simp (fits-Node, fits-Const, fits-Field, zero_word);
       small = simp (nodes-Node, nodes-Const, nodes-Field) (lit≤ tt);
       tells = λ env tuple. by_two (λ env. (val w known_valid_term env ≢ 0) ↔ IsKnown env)
-          (λ z o. simp (val-binary, val-Const, val-Field) (iff-trans (equality-tells (bit_and z o) 0) (disjoint_bits z o)))
+          (λ z o. simp (val-binary, val-Const, val-Field)
+          (iff-trans (equality-tells (bit_and z o) 0) (disjoint_bits z o)))
           env tuple.counted;
     }
 
@@ -123,8 +142,10 @@ tells_membership w width =
     record {
       fit = simp (fits-Node, fits-Const, fits-Field, zero_word);
       small = simp (nodes-Node, nodes-Const, nodes-Field) (lit≤ tt);
-      tells = λ env tuple. by_three (λ env. (val w known_member_term env ≢ 0) ↔ HasKnown (take 2 env) (slice_index env 2))
-          (λ z o c. simp (val-binary, val-Const, val-Field) (iff-trans (equalities-tell (bit_and c z) 0 (bit_and c o) o) (known_by_tests (z ∷ o ∷ []) c)))
+      tells = λ env tuple.
+          by_three (λ env. (val w known_member_term env ≢ 0) ↔ HasKnown (take 2 env) (slice_index env 2))
+          (λ z o c. simp (val-binary, val-Const, val-Field)
+          (iff-trans (equalities-tell (bit_and c z) 0 (bit_and c o) o) (known_by_tests (z ∷ o ∷ []) c)))
           env tuple.counted;
     }
 

@@ -54,7 +54,8 @@ mask_by_next k w m byte word = (there, back)
         elim (cases_lt (m + 1) (2 ^ k)) [
           | inl below ↦
               let above : bit_at m mask.0 ≡ 0 = bit_at_above m mask.0 mask.0 (omega (arith, mask.2)) (omega arith) in
-              ap (bit_and m) (mod-eq_of_lt below ∙ mask.2) ∙ and_pow m mask.0 ∙ ap (λ b. b * 2 ^ mask.0) above ∙ zero-mul (2 ^ mask.0)
+              ap (bit_and m) (mod-eq_of_lt below ∙ mask.2) ∙ and_pow m mask.0 ∙ ap (λ b. b * 2 ^ mask.0) above
+              ∙ zero-mul (2 ^ mask.0)
           | inr wraps ↦
               let whole : m + 1 ≡ 2 ^ k = omega arith in
               ap (bit_and m) (ap (λ n. n % 2 ^ k) whole ∙ mod_self (2 ^ k)) ∙ and_zero_r m
@@ -93,7 +94,8 @@ module _ (x : ℕ) where
   low_up_to-mask zero = (0, omega arith)
   low_up_to-mask (suc k) = at (bit_and x (2 ^ suc k - 1) == 2 ^ suc k - 1) (low_up_to-mask k)
     where
-      at : (t : Bool) → (j : ℕ) × (low_up_to k x + 1 ≡ 2 ^ j) → (j : ℕ) × (cond t (2 ^ suc k - 1) (low_up_to k x) + 1 ≡ 2 ^ j)
+      at : (t : Bool) → (j : ℕ) × (low_up_to k x + 1 ≡ 2 ^ j)
+          → (j : ℕ) × (cond t (2 ^ suc k - 1) (low_up_to k x) + 1 ≡ 2 ^ j)
       at true rest = (suc k, omega (arith, pow_pos (suc k)))
       at false rest = rest
 
@@ -102,33 +104,40 @@ module _ (x : ℕ) where
   low_up_to-within zero = and_zero_r x
   low_up_to-within (suc k) = at (bit_and x (2 ^ suc k - 1) == 2 ^ suc k - 1) refl (low_up_to-within k)
     where
-      at : (t : Bool) → (bit_and x (2 ^ suc k - 1) == 2 ^ suc k - 1) ≡ t → IsWithin (low_up_to k x) → IsWithin (cond t (2 ^ suc k - 1) (low_up_to k x))
+      at : (t : Bool) → (bit_and x (2 ^ suc k - 1) == 2 ^ suc k - 1) ≡ t → IsWithin (low_up_to k x)
+          → IsWithin (cond t (2 ^ suc k - 1) (low_up_to k x))
       at true e rest = eqb-true _ _ e
       at false e rest = rest
 
   pub low_up_to-greatest : (k j : ℕ) → j ≤ k → IsWithin (2 ^ j - 1) → 2 ^ j - 1 ≤ low_up_to k x
   unfolding low_up_to
   low_up_to-greatest zero j h within = let e : j ≡ 0 = omega arith in omega (arith, ap (λ i. 2 ^ i) e)
-  low_up_to-greatest (suc k) j h within = at (bit_and x (2 ^ suc k - 1) == 2 ^ suc k - 1) refl (λ less. low_up_to-greatest k j less within)
+  low_up_to-greatest (suc k) j h within =
+      at (bit_and x (2 ^ suc k - 1) == 2 ^ suc k - 1) refl (λ less. low_up_to-greatest k j less within)
     where
-      at : (t : Bool) → (bit_and x (2 ^ suc k - 1) == 2 ^ suc k - 1) ≡ t → (j ≤ k → 2 ^ j - 1 ≤ low_up_to k x) → 2 ^ j - 1 ≤ cond t (2 ^ suc k - 1) (low_up_to k x)
+      at : (t : Bool) → (bit_and x (2 ^ suc k - 1) == 2 ^ suc k - 1) ≡ t → (j ≤ k → 2 ^ j - 1 ≤ low_up_to k x)
+          → 2 ^ j - 1 ≤ cond t (2 ^ suc k - 1) (low_up_to k x)
       at true e rest = omega (arith, pow_mono h)
       at false e rest =
           elim (cases_lt j (suc k)) [
             | inl less ↦ rest (omega arith)
             | inr most ↦
                 let same : j ≡ suc k = omega arith in
-                absurd (eqb-false _ _ e (ap (λ i. bit_and x (2 ^ i - 1)) (sym same) ∙ within ∙ ap (λ i. 2 ^ i - 1) same))
+                absurd
+                (eqb-false _ _ e (ap (λ i. bit_and x (2 ^ i - 1)) (sym same) ∙ within ∙ ap (λ i. 2 ^ i - 1) same))
           ]
 
+  -- the bits of the low ones are all in the number
   pub low-within : IsWithin (low x)
   unfolding low
   low-within = low_up_to-within x
 
+  -- no mask within a number is greater than its low ones
   pub low-greatest : (j : ℕ) → IsWithin (2 ^ j - 1) → 2 ^ j - 1 ≤ low x
   unfolding low
   low-greatest j within = low_up_to-greatest x j (omega (arith, below_power j, and_le_l x (2 ^ j - 1), within)) within
 
+  -- the low ones of a word are a mask of its width
   pub low-mask : (w : ℕ) → x < 2 ^ w → IsMask w (low x)
   unfolding low
   low-mask w h =
@@ -161,5 +170,6 @@ low-trailing_ones x h =
           low-is x j all zero_after.1
       | inr most ↦
           let e : x ≡ 255 = omega arith in
-          ap low e ∙ low-is 255 8 refl refl ∙ ap (λ j. 2 ^ j - 1) (sym (trailing_of_zero 8)) ∙ ap (λ n. 2 ^ trailing_ones w8 n - 1) (sym e)
+          ap low e ∙ low-is 255 8 refl refl ∙ ap (λ j. 2 ^ j - 1) (sym (trailing_of_zero 8))
+          ∙ ap (λ n. 2 ^ trailing_ones w8 n - 1) (sym e)
     ]

@@ -16,14 +16,11 @@ use Rattle.am_bv.specs.Operators.{lshr_of}
 use Rattle.am_domain.specs.Meaning.{IsAbstract}
 use Rattle.am_domain.specs.Laws.{HasMembers, HasTop, HoldsWords, JoinsAbove, Descends, Tidies, TellsValidity}
 use Rattle.am_domain.specs.Laws.{TellsMembership, KeepsLaws}
-use Rattle.am_bits.specs.lemmas.Bits.{bit_cases, bits_of_zero, more_ones}
-use Rattle.am_bits.specs.lemmas.Bits.{four_words}
+use Rattle.am_bits.specs.lemmas.Bits.{bit_cases, bits_of_zero, more_ones, four_words}
 use Rattle.am_domain.proofs.Laws.{single-IsTuple, by_one, by_two}
 use Rattle.am_bv.proofs.Laws.{val-binary}
 use Rattle.am_bits.specs.lemmas.Terms.{orders-tell}
-use Rattle.am_bits.specs.Parities.{all_parities}
-use Rattle.am_bits.specs.Parities.{parities, IsParity, HasParity, parity_top, parity_of_word, parity_some_member}
-use Rattle.am_bits.specs.Parities.{parity_join, parity_tidy, parity_rank, parity_valid_term, parity_member_term}
+use Rattle.am_bits.specs.Parities.{all_parities, parities, IsParity, HasParity, parity_valid_term, parity_member_term}
 
 -- a fact at each parity
 by_parity : (P : ℕ → Type 0) → P 1 → P 2 → P 3 → (p : ℕ) → 1 ≤ p → p ≤ 3 → P p
@@ -35,13 +32,15 @@ by_parity P one two three (suc (suc (suc (suc p)))) least most = absurd (omega a
 
 -- a number from 1 to 3 is a value
 value : (w p : ℕ) → 2 ≤ w → 1 ≤ p → p ≤ 3 → IsAbstract parities w (p ∷ [])
-value w p width least most = record { tuple = single-IsTuple w p (omega (arith, four_words w width)); valid = (least, most) }
+value w p width least most =
+    record { tuple = single-IsTuple w p (omega (arith, four_words w width)); valid = (least, most) }
 
 has_members : HasMembers all_parities
 has_members w width a abstract =
     let zero_word = pow_pos w in
     by_parity (λ p. let c : ℕ = cond (bit_at p 0 == 1) 0 1 in (c < 2 ^ w) × (bit_at p (c % 2) ≡ 1))
-    (zero_word, refl) (one_is_word w width.0, refl) (zero_word, refl) (slice_index a 0) abstract.valid.0 abstract.valid.1
+    (zero_word, refl) (one_is_word w width.0, refl) (zero_word, refl) (slice_index a 0) abstract.valid.0
+    abstract.valid.1
 
 -- the value of a word by its lowest bit
 of_bit : (w d : ℕ) → 2 ≤ w → d < 2 → let p : ℕ = cond (d == 0) 1 2 in IsAbstract parities w (p ∷ []) × (bit_at p d ≡ 1)
@@ -75,7 +74,11 @@ descends = record {
       let q = slice_index b 0 in
       let same : a ≡ p ∷ [] = by_one (λ a. a ≡ slice_index a 0 ∷ []) (λ x. refl) a first.tuple.counted in
       let most = (joins_above w width a b first second).value.valid.1 in
-      omega (arith, more_ones p q (λ e. apart (ap (λ n. n ∷ []) e ∙ sym same)), ones-le 2 (bit_or p q) (omega (arith, most)));
+      omega (
+        arith,
+        more_ones p q (λ e. apart (ap (λ n. n ∷ []) e ∙ sym same)),
+        ones-le 2 (bit_or p q) (omega (arith, most)),
+      );
 }
 
 -- what is left of a tuple, by whether it has no bit that is read
@@ -83,14 +86,21 @@ tidied : (w r : ℕ) → 2 ≤ w → r < 2 ^ w → (t : Bool) → (bit_and r 3 =
     MatchOption (cond t None (Some (bit_and r 3 ∷ []))) ((c : ℕ) → c < 2 ^ w → ¬ (bit_at r (c % 2) ≡ 1))
     (λ a. IsAbstract parities w a × ((c : ℕ) → c < 2 ^ w → bit_at r (c % 2) ≡ 1 → HasParity a c))
 tidied w r width h true e = λ c below member.
-    omega (arith, member, bit_at_and r 3 (c % 2), bit_at_ones 2 (c % 2) (omega arith), bits_of_zero (bit_and r 3) (c % 2) (eqb-true _ _ e))
+    omega (
+      arith,
+      member,
+      bit_at_and r 3 (c % 2),
+      bit_at_ones 2 (c % 2) (omega arith),
+      bits_of_zero (bit_and r 3) (c % 2) (eqb-true _ _ e),
+    )
 tidied w r width h false e = (
   value w (bit_and r 3) width (omega (arith, eqb-false _ _ e)) (and_le_r r 3),
   λ c below member. omega (arith, member, bit_at_and r 3 (c % 2), bit_at_ones 2 (c % 2) (omega arith)),
 )
 
 tidies : Tidies all_parities
-tidies w width raw tuple = tidied w (slice_index raw 0) width.0 (tuple.words 0) (bit_and (slice_index raw 0) 3 == 0) refl
+tidies w width raw tuple =
+    tidied w (slice_index raw 0) width.0 (tuple.words 0) (bit_and (slice_index raw 0) 3 == 0) refl
 
 tells_validity : TellsValidity all_parities
 tells_validity w width =
@@ -108,7 +118,8 @@ tells_validity w width =
 bit_read : (w p c : ℕ) → 2 ≤ w → bit_and (lshr_of w p (bit_and c 1)) 1 ≡ bit_at p (c % 2)
 bit_read w p c width =
     let within : nat_lt (c % 2) w ≡ true = lt-ltb (c % 2) w (omega arith) in
-    ap (λ k. bit_and (lshr_of w p k) 1) (and_mask c 1) ∙ ap (λ t. bit_and (cond t (p / 2 ^ (c % 2)) 0) 1) within ∙ shr_and_one p (c % 2)
+    ap (λ k. bit_and (lshr_of w p k) 1) (and_mask c 1) ∙ ap (λ t. bit_and (cond t (p / 2 ^ (c % 2)) 0) 1) within
+    ∙ shr_and_one p (c % 2)
 
 tells_membership : TellsMembership all_parities
 tells_membership w width =
@@ -116,11 +127,14 @@ tells_membership w width =
     record {
       fit = simp (fits-Node, fits-Const, fits-Field, one);
       small = simp (nodes-Node, nodes-Const, nodes-Field) (lit≤ tt);
-      tells = λ env tuple. by_two (λ env. (val w parity_member_term env ≢ 0) ↔ HasParity (take 1 env) (slice_index env 1))
+      tells = λ env tuple.
+          by_two (λ env. (val w parity_member_term env ≢ 0) ↔ HasParity (take 1 env) (slice_index env 1))
           (λ p c.
           let e = bit_read w p c width.0 in
-          simp (val-binary, val-Const, val-Field)
-          (λ h. elim (bit_cases p (c % 2)) [ inl f ↦ absurd (h (e ∙ f)) | inr f ↦ f ], λ h zero. omega (arith, sym e ∙ zero, h))
+          simp (val-binary, val-Const, val-Field) (
+            λ h. elim (bit_cases p (c % 2)) [ inl f ↦ absurd (h (e ∙ f)) | inr f ↦ f ],
+            λ h zero. omega (arith, sym e ∙ zero, h),
+          )
           ) env tuple.counted;
     }
 

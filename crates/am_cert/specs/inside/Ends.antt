@@ -6,10 +6,12 @@ use Rattle.am_cert.specs.declared.checking.CheckFail.TheVariants as check
 use Rattle.am_cert.specs.declared.feed.FeedEnd.{FeedEnd}
 use Rattle.am_cert.specs.declared.feed.FeedEnd.TheVariants.{NoMemory, Refused, Rejected}
 
+-- the end of a stream whose text isn't read
 abbrev pub unread : ReadError → FeedEnd
 unread (read.Refused r) = Refused r
 unread read.NoMemory = NoMemory
 
+-- the end of a stream whose certificate isn't accepted
 abbrev pub unaccepted : CheckFail → FeedEnd
 unaccepted (check.Rejected f) = Rejected f
 unaccepted check.NoMemory = NoMemory

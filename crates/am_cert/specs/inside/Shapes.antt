@@ -1,9 +1,10 @@
--- What a problem says of the rows behind it, as it is stored.
+-- What a problem says of the rows after it, as it is stored.
 use Rattle.std.specs.Prelude.{◌≤◌}
 use Rattle.am_problem.specs.declared.limits.TheConstants.{MOST_TURNS}
 use Rattle.am_cert.specs.Grammar.{Shape}
 use Rattle.am_cert.specs.declared.shape.Shape.{Shape as StoredShape}
 
+-- a stored shape as the shape that it holds
 abbrev pub seen_shape : StoredShape → Shape
 seen_shape s = record { width = s.width; inputs = s.inputs; fields = s.fields; turns = s.turns }
 

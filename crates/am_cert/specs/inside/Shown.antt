@@ -9,6 +9,7 @@ use Rattle.am_cert.specs.Grammar.{AskedParts, CounterParts, ExampleParts, Shape,
 use Rattle.am_cert.specs.Grammar.{negative_count, result_term, terms}
 use Rattle.am_cert.specs.declared.turns.Example.{Example}
 
+-- a stored example as its parts
 abbrev pub seen_example : Example → ExampleParts
 seen_example e = (e.term, (e.example.inputs, (e.example.words, e.places)))
 
@@ -16,7 +17,7 @@ seen_example e = (e.term, (e.example.inputs, (e.example.words, e.places)))
 abbrev pub read_as : {X Y : Type 0} → (X → Y) → Piece X → Reader Y
 read_as to p = p.read >>= λ x. done (to x)
 
--- an example or a counterexample behind its key word
+-- an example or a counterexample after its key word
 abbrev pub either_turn : Shape → ℕ → Piece (ExampleParts ⊎ CounterParts)
 either_turn s count =
     choice (next_is (codes "positive"))

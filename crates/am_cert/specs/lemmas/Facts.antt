@@ -1,6 +1,7 @@
--- That an outcome can be written, and that its logs aren't too long, are facts: each holds in one way.
+-- That an answer can be written after a problem is a fact: it holds in one way.
 use Rattle.std.specs.Prelude.{ℕ, ◌+◌, ◌*◌, ◌^◌, List, [], ◌∷◌, ◌++◌, codes, min}
 use Rattle.std.specs.Coded.{codes as coded, le_prop}
+use Rattle.am_hint.specs.declared.hint.Hint.{Hint}
 use Rattle.am_problem.specs.Texts.{Draft}
 use Rattle.am_query.specs.declared.asked.Asked.TheVariants.{Keep, Precise, Sound, Start}
 use Rattle.am_query.specs.declared.outcome.Outcome.{Outcome}
@@ -9,12 +10,14 @@ use Rattle.am_query.specs.declared.turn.Turn.{Turn}
 use Rattle.am_query.specs.declared.turn.Turn.TheVariants.{Negative, Positive}
 use Rattle.am_syntax.specs.Pieces.{Piece, below, good_from, key_or, keyed, number}
 use Rattle.am_syntax.specs.Readers.{Word}
-use Rattle.am_cert.specs.Certificate.{AreBounded}
+use Rattle.am_cert.specs.Certificate.{AreBounded, AreHints, AreHintsOf, AreProofsOf, IsHint}
 use Rattle.am_cert.specs.Grammar.{Shape, asked, best, chain, counterexample, example, log, negative_count, none}
-use Rattle.am_cert.specs.Grammar.{outcome}
-use Rattle.am_cert.specs.Grammar.{place_behind, places, result_term, shape_of, spent_conflicts, spent_turns, step}
-use Rattle.am_cert.specs.Grammar.{terms}
-use Rattle.am_cert.specs.Grammar.{turn, turns, word, words}
+use Rattle.am_cert.specs.Grammar.{outcome, place_behind, places, result_term, shape_of, spent_conflicts, spent_turns}
+use Rattle.am_cert.specs.Grammar.{step, terms, turn, turns, word, words}
+use Rattle.am_cert.specs.declared.answer.Answer.{Answer}
+use Rattle.am_cert.specs.declared.answer.Proofs.{Proofs}
+use Rattle.am_cert.specs.declared.answer.Proofs.TheVariants.{Chains, Hinted}
+use Rattle.am_cert.specs.declared.version.Version.{Version}
 use Rattle.am_cert.specs.inside.Drafts.{CanFollow}
 
 -- what a piece takes for good is a fact
@@ -105,13 +108,34 @@ outcome-prop s (Turns trace) = turns-prop s (s.turns + 1) trace
 outcome-prop s (Conflicts trace asked log) =
     hlevel (turns-prop s s.turns trace, asked-prop s trace asked, log-prop (codes "spent") log)
 
--- an outcome can follow a problem in one way
-pub follow-prop : (d : Draft) (o : Outcome) → IsProp (CanFollow d o)
-follow-prop d o = outcome-prop (shape_of d.lines) o
-
 -- logs aren't too long in one way
-pub bounded-prop : (o : Outcome) → IsProp (AreBounded o)
+bounded-prop : (o : Outcome) → IsProp (AreBounded o)
 bounded-prop (Best t trace sound_log best_log) = hlevel le_prop
 bounded-prop (Absent trace log) = hlevel le_prop
 bounded-prop (Turns trace) = hlevel
 bounded-prop (Conflicts trace asked log) = hlevel le_prop
+
+hint-prop : (h : Hint) → IsProp (IsHint h)
+hint-prop h = hlevel le_prop
+
+list-prop : (hints : List Hint) → IsProp (AreHints hints)
+list-prop hints = hlevel (le_prop, hint-prop)
+
+hints-prop : (o : Outcome) (first second : List Hint) → IsProp (AreHintsOf o first second)
+hints-prop (Best t trace [] []) first second = hlevel (list-prop first, list-prop second)
+hints-prop (Best t trace [] (c ∷ best_log)) first second = hlevel
+hints-prop (Best t trace (c ∷ sound_log) best_log) first second = hlevel
+hints-prop (Absent trace []) first [] = list-prop first
+hints-prop (Absent trace []) first (h ∷ second) = hlevel
+hints-prop (Absent trace (c ∷ log)) first second = hlevel
+hints-prop (Turns trace) first second = hlevel
+hints-prop (Conflicts trace asked log) first second = hlevel
+
+proofs-prop : (v : Version) (o : Outcome) (proofs : Proofs) → IsProp (AreProofsOf v o proofs)
+proofs-prop v o Chains = hlevel coded
+proofs-prop v o (Hinted first second) = hlevel (coded, hints-prop o first second)
+
+-- an answer can follow a problem in one way
+pub follow-prop : (v : Version) (d : Draft) (a : Answer) → IsProp (CanFollow v d a)
+follow-prop v d a =
+    hlevel (outcome-prop (shape_of d.lines) a.outcome, bounded-prop a.outcome, proofs-prop v a.outcome a.proofs)

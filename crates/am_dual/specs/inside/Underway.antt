@@ -58,7 +58,7 @@ pub record IsBegun (p : Problem) (next : Next) : Type 0 where
   pub right : IsRight p next
   pub none : trace_so_far next ≡ []
 
--- After these turns there is one more, and there may be another; or this is the end, with these turns, or with one more.
+-- After these turns there is one more, and there may be another; or this is the end, with these turns or one more.
 abbrev pub IsNext : Problem → List Turn → Next → Type 0
 IsNext p trace (NextTurn s) = IsUnderway p p.turns s × ((t : Turn) × (s.trace ≡ trace ++ t ∷ []))
 IsNext p trace (End o) = IsEnd p o × ((trace_of o ≡ trace) ⊎ ((t : Turn) × (trace_of o ≡ trace ++ t ∷ [])))

@@ -4,6 +4,7 @@ use Rattle.std.specs.Option.{ForSome}
 use Rattle.am_flow.specs.States.{Row}
 use Rattle.am_flow.specs.declared.stepped.Change.{Change}
 
+-- the row with the change, if there is one
 abbrev pub changed : Row → Option Change → Row
 changed row None = row
 changed row (Some c) = slice_set row c.variable c.value

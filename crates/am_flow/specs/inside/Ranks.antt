@@ -17,6 +17,7 @@ abbrev pub entry_rank : Flow → Entry → ℕ
 entry_rank f None = most_rank f + 1
 entry_rank f (Some row) = row_rank f row
 
+-- the ranks of a state's entries together
 abbrev pub state_rank : Flow → State → ℕ
 state_rank f state = sum_by (entry_rank f) state
 

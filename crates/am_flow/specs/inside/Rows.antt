@@ -10,6 +10,7 @@ pub record IsRow (f : Flow) (row : Row) : Type 0 where
   pub counted : length row ≡ f.variables
   pub values : All (IsAbstract (meaning_of f.kind) f.width) row
 
+-- an entry is no row, or a row of the flow
 abbrev pub IsEntry : Flow → Entry → Type 0
 IsEntry f None = Unit {0}
 IsEntry f (Some row) = IsRow f row

@@ -46,16 +46,18 @@ unsigned-top w width = unsigned_top-IsTop w
 signed-top : (w : ℕ) → IsWidth w → IsTop signed w (signed_top w)
 signed-top w width = signed_top-IsTop w width.0
 
--- both keep all laws of a domain
+-- unsigned intervals keep all laws of a domain
 pub unsigned_laws : KeepsLaws unsigned_intervals
 unsigned_laws = interval_laws unsigned unsigned_top Ule unsigned-top terms.Ule-IsAtMost walks.unsigned-IsModular
 
+-- signed intervals keep all laws of a domain
 pub signed_laws : KeepsLaws signed_intervals
 signed_laws = interval_laws signed signed_top Sle signed-top terms.Sle-IsAtMost walks.signed-IsModular
 
--- and those of a domain whose values are walks
+-- unsigned intervals keep those of a domain whose values are walks
 pub unsigned_walks : IsAnchored unsigned_intervals
 unsigned_walks = interval_walks unsigned unsigned_top Ule unsigned-top terms.Ule-IsAtMost walks.unsigned-IsModular
 
+-- signed intervals keep those of a domain whose values are walks
 pub signed_walks : IsAnchored signed_intervals
 signed_walks = interval_walks signed signed_top Sle signed-top terms.Sle-IsAtMost walks.signed-IsModular

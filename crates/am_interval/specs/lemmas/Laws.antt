@@ -22,6 +22,7 @@ le-refl : (x : ℤ) → x ≤ℤ x
 le-refl x = omega (arith, ints)
 
 module _ (number : Reading) (top : ℕ → List ℕ) (at_most : Op) where
+  -- each interval has its least end as a member
   pub has_members : HasMembers (interval_domain number top at_most)
   has_members w width a h = (h.tuple.words 0, (le-refl _, h.valid))
 
@@ -34,11 +35,15 @@ module _ (number : Reading) (top : ℕ → List ℕ) (at_most : Op) where
       let high = greater-IsGreater number w (greatest a) (greatest b) in
       record {
         value = record {
-          tuple = pair-IsTuple w _ _ (low.word (ha.tuple.words 0) (hb.tuple.words 0)) (high.word (ha.tuple.words 1) (hb.tuple.words 1));
+          tuple =
+              pair-IsTuple w _ _ (low.word (ha.tuple.words 0) (hb.tuple.words 0))
+              (high.word (ha.tuple.words 1) (hb.tuple.words 1));
           valid = omega (arith, ints, low.first, high.first, ha.valid);
         };
-        first = λ c below between. (omega (arith, ints, low.first, between.0), omega (arith, ints, high.first, between.1));
-        second = λ c below between. (omega (arith, ints, low.second, between.0), omega (arith, ints, high.second, between.1));
+        first = λ c below between.
+            (omega (arith, ints, low.first, between.0), omega (arith, ints, high.first, between.1));
+        second = λ c below between.
+            (omega (arith, ints, low.second, between.0), omega (arith, ints, high.second, between.1));
       }
 
   pub tidies : Tidies (interval_domain number top at_most)
@@ -46,11 +51,13 @@ module _ (number : Reading) (top : ℕ → List ℕ) (at_most : Op) where
     where
       go : (b : Bool) → int_le (number w (least raw)) (number w (greatest raw)) ≡ b →
           MatchOption (if b then Some raw else None) ((c : ℕ) → c < 2 ^ w → ¬ IsBetween number w raw c)
-          (λ a. IsAbstract (intervals number) w a × ((c : ℕ) → c < 2 ^ w → IsBetween number w raw c → IsBetween number w a c))
+          (λ a. IsAbstract (intervals number) w a
+          × ((c : ℕ) → c < 2 ^ w → IsBetween number w raw c → IsBetween number w a c))
       go true e = (record { tuple = h; valid = grind (arith, ints, e) }, λ c below between. between)
       go false e = λ c below between. grind (arith, ints, e, between.0, between.1)
 
-module _ (number : Reading) (top : ℕ → List ℕ) (at_most : Op) (is_top : (w : ℕ) → IsWidth w → IsTop number w (top w)) where
+module _ (number : Reading) (top : ℕ → List ℕ) (at_most : Op)
+    (is_top : (w : ℕ) → IsWidth w → IsTop number w (top w)) where
   pub has_top : HasTop (interval_domain number top at_most)
   has_top w width =
       let t = is_top w width in
@@ -68,7 +75,8 @@ module _ (number : Reading) (top : ℕ → List ℕ) (at_most : Op) (is_top : (w
       t.most (t.above _ (joined.words 0)) (t.below _ (joined.words 1)) ha.valid low.first high.first in
       elim low.strict [
         | inl h ↦ fewer (inl h)
-        | inr h ↦ elim high.strict [ inl k ↦ fewer (inr k) | inr k ↦ absurd (changed (rw (h, k) (pair-ends a ha.tuple.counted))) ]
+        | inr h ↦ elim high.strict
+            [ inl k ↦ fewer (inr k) | inr k ↦ absurd (changed (rw (h, k) (pair-ends a ha.tuple.counted))) ]
       ]
 
   pub descends : Descends (interval_domain number top at_most)

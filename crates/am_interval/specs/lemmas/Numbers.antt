@@ -1,6 +1,6 @@
 -- What the two readings of words have in common, and what the lesser and the greater of two words are.
 use Rattle.std.proofs.Common.{◌≡◌, ℕ, ◌+◌, ◌-◌, ◌^◌, ◌<◌, ◌≤◌, ◌⊎◌, inl, inr, Bool, true, false, refl, arith, ℤ, pos}
-use Rattle.std.proofs.Common.{negsuc, ◌+ℤ◌, ◌≤ℤ◌, ◌<ℤ◌, int_lt, ap, ◌∙◌, suc, if◌then◌else◌, List, [], ◌∷◌}
+use Rattle.std.proofs.Common.{negsuc, ◌+ℤ◌, ◌≤ℤ◌, ◌<ℤ◌, int_lt, ap, ◌∙◌, suc, if◌then◌else◌, List}
 use Rattle.std.proofs.Math.Nat.{two-pow-succ}
 use Rattle.std.proofs.lemmas.Nat.{pow_pos}
 use Rattle.std.proofs.lemmas.Int.{ints}
@@ -21,6 +21,7 @@ pub record IsTop (number : Reading) (w : ℕ) (a : List ℕ) : Type 0 where
   pub below : (c : ℕ) → c < 2 ^ w → number w c ≤ℤ number w (greatest a)
   pub most : number w (greatest a) ≤ℤ (number w (least a) +ℤ pos (2 ^ w - 1))
 
+-- the interval of all words in unsigned order has all words
 pub unsigned_top-IsTop : (w : ℕ) → IsTop unsigned w (unsigned_top w)
 unsigned_top-IsTop w =
     let h = pow_pos w in
@@ -31,13 +32,16 @@ unsigned_top-IsTop w =
       most = omega (arith, ints);
     }
 
+-- half of the words have a top bit and half have none
 pub halved : (w : ℕ) → 2 ≤ w → 2 ^ w ≡ 2 ^ (w - 1) + 2 ^ (w - 1)
 halved w h = let e : w ≡ suc (w - 1) = omega arith in ap (λ k. 2 ^ k) e ∙ two-pow-succ (w - 1)
 
 -- the signed number of a word, by its top bit
-pub signed_cases : (w c : ℕ) → ((c < 2 ^ (w - 1)) × (signed w c ≡ pos c)) ⊎ ((2 ^ (w - 1) ≤ c) × (signed w c +ℤ pos (2 ^ w) ≡ pos c))
+pub signed_cases : (w c : ℕ) →
+    ((c < 2 ^ (w - 1)) × (signed w c ≡ pos c)) ⊎ ((2 ^ (w - 1) ≤ c) × (signed w c +ℤ pos (2 ^ w) ≡ pos c))
 signed_cases w c = grind (arith, ints, nat_tests)
 
+-- the interval of all words in signed order has all words
 pub signed_top-IsTop : (w : ℕ) → 2 ≤ w → IsTop signed w (signed_top w)
 signed_top-IsTop w h =
     let half = pow_pos (w - 1) in
@@ -74,12 +78,19 @@ pub record IsLesser (number : Reading) (w c d least : ℕ) : Type 0 where
   pub second : number w least ≤ℤ number w d
   pub strict : (number w least <ℤ number w c) ⊎ (least ≡ c)
 
+-- the lesser of two words is a word, with a number no greater than either's
 pub lesser-IsLesser : (number : Reading) (w c d : ℕ) → IsLesser number w c d (lesser number w c d)
 lesser-IsLesser number w c d = go (int_lt (number w d) (number w c)) refl
   where
     go : (b : Bool) → int_lt (number w d) (number w c) ≡ b → IsLesser number w c d (if b then d else c)
-    go true e = record { word = λ _ k. k; first = grind (arith, ints, e); second = omega (arith, ints); strict = inl (grind (arith, ints, e)) }
-    go false e = record { word = λ k _. k; first = omega (arith, ints); second = grind (arith, ints, e); strict = inr refl }
+    go true e = record {
+      word = λ _ k. k;
+      first = grind (arith, ints, e);
+      second = omega (arith, ints);
+      strict = inl (grind (arith, ints, e));
+    }
+    go false e =
+        record { word = λ k _. k; first = omega (arith, ints); second = grind (arith, ints, e); strict = inr refl }
 
 -- what the greater of two words is
 pub record IsGreater (number : Reading) (w c d greatest : ℕ) : Type 0 where
@@ -88,9 +99,16 @@ pub record IsGreater (number : Reading) (w c d greatest : ℕ) : Type 0 where
   pub second : number w d ≤ℤ number w greatest
   pub strict : (number w c <ℤ number w greatest) ⊎ (greatest ≡ c)
 
+-- the greater of two words is a word, with a number no less than either's
 pub greater-IsGreater : (number : Reading) (w c d : ℕ) → IsGreater number w c d (greater number w c d)
 greater-IsGreater number w c d = go (int_lt (number w c) (number w d)) refl
   where
     go : (b : Bool) → int_lt (number w c) (number w d) ≡ b → IsGreater number w c d (if b then d else c)
-    go true e = record { word = λ _ k. k; first = grind (arith, ints, e); second = omega (arith, ints); strict = inl (grind (arith, ints, e)) }
-    go false e = record { word = λ k _. k; first = omega (arith, ints); second = grind (arith, ints, e); strict = inr refl }
+    go true e = record {
+      word = λ _ k. k;
+      first = grind (arith, ints, e);
+      second = omega (arith, ints);
+      strict = inl (grind (arith, ints, e));
+    }
+    go false e =
+        record { word = λ k _. k; first = omega (arith, ints); second = grind (arith, ints, e); strict = inr refl }

@@ -17,7 +17,8 @@ use Rattle.am_interval.specs.Domains.{interval_domain}
 -- an operator that tells whether a word is at most another
 pub record IsAtMost (number : Reading) (op : Op) : Type 0 where
   pub arguments : arity op ≡ 2
-  pub tells : (w : ℕ) (args : List ℕ) → apply w op args ≡ one_if (int_le (number w (slice_index args 0)) (number w (slice_index args 1)))
+  pub tells : (w : ℕ) (args : List ℕ)
+      → apply w op args ≡ one_if (int_le (number w (slice_index args 0)) (number w (slice_index args 1)))
 
 -- the comparison of two words, and of two pairs of words
 at_most-tells : (x y : ℤ) → (one_if (int_le x y) ≢ 0) ↔ (x ≤ℤ y)
@@ -27,7 +28,9 @@ both-tell : (x y z u : ℤ) → (bit_and (one_if (int_le x y)) (one_if (int_le z
 both-tell x y z u = grind (arith, ints)
 
 module _ (number : Reading) (top : ℕ → List ℕ) (op : Op) (at_most : IsAtMost number op) where
-  val-order : (w i j : ℕ) (env : List ℕ) → val w (binary op (Field i) (Field j)) env ≡ one_if (int_le (number w (slice_index env i)) (number w (slice_index env j)))
+  val-order : (w i j : ℕ) (env : List ℕ)
+      → val w (binary op (Field i) (Field j)) env
+      ≡ one_if (int_le (number w (slice_index env i)) (number w (slice_index env j)))
   val-order w i j env =
       val-Node w op (Field i ∷ Field j ∷ []) env ∙ at_most.tells w (val w (Field i) env ∷ val w (Field j) env ∷ [])
       ∙ rw (val-Field w i env, val-Field w j env) refl

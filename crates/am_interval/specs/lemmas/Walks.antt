@@ -1,6 +1,6 @@
 -- Intervals are walks from their least to their greatest word.
-use Rattle.std.proofs.Common.{◌≡◌, ℕ, ◌+◌, ◌^◌, ◌<◌, ◌≤◌, ◌⊎◌, inl, inr, ◌↔◌, refl, arith, ℤ, pos, ◌+ℤ◌, ◌≤ℤ◌, ◌<ℤ◌}
-use Rattle.std.proofs.Common.{Bool, true, false, int_lt, if◌then◌else◌, List}
+use Rattle.std.proofs.Common.{◌≡◌, ℕ, ◌^◌, ◌<◌, ◌≤◌, ◌⊎◌, inl, inr, ◌↔◌, refl, arith, ℤ, pos, ◌+ℤ◌, ◌≤ℤ◌, ◌<ℤ◌, Bool}
+use Rattle.std.proofs.Common.{true, false, int_lt, if◌then◌else◌, List}
 use Rattle.std.proofs.lemmas.Int.{ints}
 use Rattle.am_bv.specs.Words.{IsWidth, signed}
 use Rattle.am_bv.specs.declared.op.Op.{Op}
@@ -18,7 +18,8 @@ Leads p s x y = ((x ≤ℤ y) × ((x +ℤ pos s) ≡ y)) ⊎ ((y <ℤ x) × ((x 
 
 -- the steps from one word to another lead from its number to the other's
 abbrev pub IsModular : Reading → Type 0
-IsModular number = (w c d : ℕ) → IsWidth w → c < 2 ^ w → d < 2 ^ w → Leads (2 ^ w) (steps w c d) (number w c) (number w d)
+IsModular number =
+    (w c d : ℕ) → IsWidth w → c < 2 ^ w → d < 2 ^ w → Leads (2 ^ w) (steps w c d) (number w c) (number w d)
 
 pub unsigned-IsModular : IsModular unsigned
 unsigned-IsModular w c d width hc hd = grind (arith, ints, steps-cases w c d hc hd)
@@ -55,11 +56,13 @@ module _ (number : Reading) (top : ℕ → List ℕ) (at_most : Op) (modular : I
       let last = h.tuple.words 1 in
       let among = Contains-walk w a c h.tuple below in
       let between = between-steps (2 ^ w) _ _ _ _ _ _ (steps-word w c (greatest a)) h.valid
-      (modular w (least a) c width first below) (modular w (least a) (greatest a) width first last) (modular w c (greatest a) width below last) in
+      (modular w (least a) c width first below) (modular w (least a) (greatest a) width first last)
+      (modular w c (greatest a) width below last) in
       (λ member. among.1 (between.0 member), λ found. between.1 (among.0 found))
 
   pub has_parts : HasParts (interval_domain number top at_most)
   has_parts w width a h c e hc he in_c in_e order =
       let first = h.tuple.words 0 in
       part-IsPart (interval_domain number top at_most) refl walks_members w width a h c e hc he order
-      (in_order (2 ^ w) _ _ _ _ _ in_c.0 in_e.0 order (modular w (least a) c width first hc) (modular w (least a) e width first he))
+      (in_order (2 ^ w) _ _ _ _ _ in_c.0 in_e.0 order (modular w (least a) c width first hc)
+      (modular w (least a) e width first he))

@@ -16,11 +16,15 @@ use Rattle.am_pair.specs.Theorems.{CommonAreMembersOfBoth}
 -- what passes a filter
 Contains-filter : (p : ℕ → Bool) (xs : List ℕ) (c : ℕ) → Contains xs c → p c ≡ true → Contains (filter p xs) c
 Contains-filter p [] c found passes = absurd (omega (arith, found.1))
-Contains-filter p (x ∷ xs) c found passes = at (λ k below e. Contains-filter p xs c (k, below, e) passes) (p x) refl found.0 found.1 found.2
+Contains-filter p (x ∷ xs) c found passes =
+    at (λ k below e. Contains-filter p xs c (k, below, e) passes) (p x) refl found.0 found.1 found.2
   where
-    at : (later : (k : ℕ) → k < length xs → get_or xs k c ≡ c → Contains (filter p xs) c) (t : Bool) → p x ≡ t → (k : ℕ) → k < length (x ∷ xs) → get_or (x ∷ xs) k c ≡ c → Contains (cond t (x ∷ filter p xs) (filter p xs)) c
+    at : (later : (k : ℕ) → k < length xs → get_or xs k c ≡ c → Contains (filter p xs) c) (t : Bool) → p x ≡ t →
+        (k : ℕ) → k < length (x ∷ xs) → get_or (x ∷ xs) k c ≡ c →
+        Contains (cond t (x ∷ filter p xs) (filter p xs)) c
     at later true e zero below is = (zero, omega arith, is)
-    at later true e (suc k) below is = let rest = later k (omega arith) is in (suc rest.0, omega (arith, rest.1), rest.2)
+    at later true e (suc k) below is =
+        let rest = later k (omega arith) is in (suc rest.0, omega (arith, rest.1), rest.2)
     at later false e zero below is = let no : true ≡ false = sym passes ∙ ap p (sym is) ∙ e in cc
     at later false e (suc k) below is = later k (omega arith) is
 
@@ -41,7 +45,8 @@ module _ (f : ℕ → ℕ) where
   -- and that of the first is the least
   pub first-least : (c : ℕ) (words : List ℕ) → Grows (c ∷ words) → All (λ d. f c ≤ f d) (c ∷ words)
   first-least c words grows zero d below = omega arith
-  first-least c words grows (suc i) d below = let more : f c < f (get_or words i d) = grows 0 (suc i) d (omega arith) below in omega (arith, more)
+  first-least c words grows (suc i) d below =
+      let more : f c < f (get_or words i d) = grows 0 (suc i) d (omega arith) below in omega (arith, more)
 
 -- the last of some words is one of them
 pub last-contains : (c : ℕ) (words : List ℕ) → Contains (c ∷ words) (last_of c words)
@@ -81,7 +86,9 @@ module _ {b : Abstraction} (laws : KeepsLaws b) (w : ℕ) (width : IsWidth w) wh
       let rest = joined (b.of_word w c) words word.0 (λ i e h. below (suc i) e (omega arith)) in
       record {
         value = rest.0.value;
-        all = All-cons (λ e. b.meaning.Member w (join_of_words b w c words) e) c words (rest.1 c (below 0 c (omega arith)) word.1) rest.0.all;
+        all =
+            All-cons (λ e. b.meaning.Member w (join_of_words b w c words) e) c words
+            (rest.1 c (below 0 c (omega arith)) word.1) rest.0.all;
       }
 
 -- the common words of two values are the members of both

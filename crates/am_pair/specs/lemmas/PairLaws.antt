@@ -1,6 +1,6 @@
 -- The laws of a product of two domains, from those of the parts.
-use Rattle.std.proofs.Common.{◌≡◌, ◌≢◌, ℕ, ◌+◌, ◌*◌, ◌^◌, ◌<◌, ◌≤◌, ◌⊎◌, inl, inr, Bool, true, false, List, [], ◌∷◌}
-use Rattle.std.proofs.Common.{◌++◌, slice_index, refl, sym, ap, ◌∙◌, subst, arith, MatchOption}
+use Rattle.std.proofs.Common.{◌≡◌, ◌≢◌, ℕ, ◌*◌, ◌^◌, ◌<◌, ◌≤◌, ◌⊎◌, inl, inr, Bool, true, false, List, [], ◌∷◌, ◌++◌}
+use Rattle.std.proofs.Common.{slice_index, refl, sym, ap, ◌∙◌, subst, arith, MatchOption}
 use Rattle.std.specs.Prelude.{All, AllPairs, Contains}
 use Rattle.std.specs.Str.{bytes_eq}
 use Rattle.std.specs.declared.option.Option.{Option}
@@ -16,7 +16,8 @@ use Rattle.am_domain.specs.Walk.{steps, walk}
 use Rattle.am_domain.specs.Laws.{HasMembers, HasTop, HoldsWords, JoinsAbove, Descends, Tidies, KeepsLaws, is_member}
 use Rattle.am_domain.specs.AnchoredLaws.{IsPart}
 use Rattle.am_domain.proofs.Laws.{pair-IsTuple}
-use Rattle.am_pair.specs.Pairs.{first, second, pairs, common, last_of, join_of_words, hull_of_words, tidy_parts, product}
+use Rattle.am_pair.specs.Pairs.{first, second, pairs, common, last_of, join_of_words, hull_of_words, tidy_parts}
+use Rattle.am_pair.specs.Pairs.{product}
 use Rattle.am_pair.specs.lemmas.Parts.{ArePaired, parts, values, value, member, made, of_first, as_first}
 use Rattle.am_pair.specs.lemmas.Walks.{All-walk, AllPairs-walk}
 use Rattle.am_pair.specs.lemmas.Commons.{common-members, HasWords, join-has, last-most, first-least, last-contains}
@@ -52,15 +53,18 @@ module _ {a b : Abstraction} (laws : ArePaired a b) where
 
   has_members : HasMembers (product a b)
   has_members w width p h =
-      let v = values laws w p h in
-      (h.tuple.words 0, (subst (m.Member w (first p)) v.known.start (laws.walks.has_start w width (first p) v.front), h.valid.2))
+      let v = values laws w p h in (
+        h.tuple.words 0,
+        (subst (m.Member w (first p)) v.known.start (laws.walks.has_start w width (first p) v.front), h.valid.2),
+      )
 
   has_top : HasTop (product a b)
   has_top w width =
       let x = laws.first.has_top w width in
       let y = laws.second.has_top w width in (
         value laws w (a.top w) (b.top w) x.0 y.0 (y.1 (slice_index (a.top w) 0) (x.0.tuple.words 0)),
-        λ c below. member laws w (a.top w) (b.top w) c (of_first laws w (a.top w) x.0.tuple) y.0.tuple (x.1 c below) (y.1 c below),
+        λ c below. member laws w (a.top w) (b.top w) c (of_first laws w (a.top w) x.0.tuple) y.0.tuple (x.1 c below)
+            (y.1 c below),
       )
 
   holds_words : HoldsWords (product a b)
@@ -80,10 +84,16 @@ module _ {a b : Abstraction} (laws : ArePaired a b) where
       let y = laws.second.joins_above w width (second p) (second q) vp.back vq.back in
       let tuple = of_first laws w (a.join w (first p) (first q)) x.value.tuple in
       record {
-        value = value laws w _ _ x.value y.value (elim (laws.walks.keeps_start w width (first p) (first q) vp.front vq.front) [
-          | inl e ↦ subst (n.Member w (b.join w (second p) (second q))) (sym e) (y.first (slice_index (first p) 0) (vp.known.front.words 0) vp.meets)
-          | inr e ↦ subst (n.Member w (b.join w (second p) (second q))) (sym e) (y.second (slice_index (first q) 0) (vq.known.front.words 0) vq.meets)
-        ]);
+        value =
+            value laws w _ _ x.value y.value
+            (elim (laws.walks.keeps_start w width (first p) (first q) vp.front vq.front) [
+              | inl e ↦
+                  subst (n.Member w (b.join w (second p) (second q))) (sym e)
+                  (y.first (slice_index (first p) 0) (vp.known.front.words 0) vp.meets)
+              | inr e ↦
+                  subst (n.Member w (b.join w (second p) (second q))) (sym e)
+                  (y.second (slice_index (first q) 0) (vq.known.front.words 0) vq.meets)
+            ]);
         first = λ c below h. member laws w _ _ c tuple y.value.tuple (x.first c below h.0) (y.first c below h.1);
         second = λ c below h. member laws w _ _ c tuple y.value.tuple (x.second c below h.0) (y.second c below h.1);
       }
@@ -100,7 +110,10 @@ module _ {a b : Abstraction} (laws : ArePaired a b) where
       let right = ap (b.rank w) known.back in
       elim (rank_or_less laws.first w width (first p) (first q) vp.front vq.front) [
         | inl ex ↦ elim (rank_or_less laws.second w width (second p) (second q) vp.back vq.back) [
-          | inl ey ↦ absurd (changed (ap (λ z. z ++ b.join w (second p) (second q)) ex.0 ∙ ap (λ z. first p ++ z) ey.0 ∙ vp.known.whole))
+          | inl ey ↦
+              absurd
+              (changed
+              (ap (λ z. z ++ b.join w (second p) (second q)) ex.0 ∙ ap (λ z. first p ++ z) ey.0 ∙ vp.known.whole))
           | inr less ↦ omega (arith, left, right, ex.1, less)
         ]
         | inr less ↦ elim (rank_or_less laws.second w width (second p) (second q) vp.back vq.back) [
@@ -113,7 +126,8 @@ module _ {a b : Abstraction} (laws : ArePaired a b) where
   descends = record {
     most = λ w width p h.
         let v = values laws w p h in
-        let ma = subst (λ k. a.rank w (first p) ≤ k * 2 ^ w) laws.walks.has_two_fields (laws.first.descends.most w width (first p) v.front) in
+        let ma = subst (λ k. a.rank w (first p) ≤ k * 2 ^ w) laws.walks.has_two_fields
+        (laws.first.descends.most w width (first p) v.front) in
         omega (arith, ma, laws.second.descends.most w width (second p) v.back);
     falls = falls;
   }
@@ -134,11 +148,13 @@ module _ {a b : Abstraction} (laws : ArePaired a b) where
     hull : (x : List ℕ) → IsAbstract m w x → (words : List ℕ) → AreCommon x words → IsTidied (hull_of_words b w words)
     hull x hx [] known = λ c below h. absurd (omega (arith, (known.has c below h).1))
     hull x hx (c ∷ words) known = (
-      value laws w (c ∷ last ∷ []) (join_of_words b w c words) (record { tuple = as_first laws w (c ∷ last ∷ []) ends; valid = part.valid })
+      value laws w (c ∷ last ∷ []) (join_of_words b w c words)
+          (record { tuple = as_first laws w (c ∷ last ∷ []) ends; valid = part.valid })
           joined.value (joined.all 0 c (omega arith)),
       λ e h in_raw.
           let found = known.has e h in_raw in
-          member laws w (c ∷ last ∷ []) (join_of_words b w c words) e ends joined.value.tuple ((part.members e h).1 (between e found))
+          member laws w (c ∷ last ∷ []) (join_of_words b w c words) e ends joined.value.tuple
+          ((part.members e h).1 (between e found))
           (All-contains (λ d. n.Member w (join_of_words b w c words) d) (c ∷ words) e joined.all found),
     )
       where
@@ -188,7 +204,9 @@ module _ {a b : Abstraction} (laws : ArePaired a b) where
         hull x mx.0 words (record {
           below = below;
           members = λ i d h. ((tell _ (below i d h)).0 (Contains-get_or words i d h)).0;
-          rise = AllPairs-filter (λ c d. steps w (slice_index x 0) c < steps w (slice_index x 0) d) test (walk w x) (AllPairs-walk w x start);
+          rise =
+              AllPairs-filter (λ c d. steps w (slice_index x 0) c < steps w (slice_index x 0) d) test (walk w x)
+              (AllPairs-walk w x start);
           has = λ c h in_raw. (tell c h).1 (mx.1 c h in_raw.0, my.1 c h in_raw.1);
         })
 

@@ -9,7 +9,9 @@ use Rattle.am_domain.proofs.Laws.{by_two, AreWords-nil, AreWords-cons}
 use Rattle.am_pair.specs.Pairs.{first, second, pairs}
 
 -- a fact at each list of at least two numbers
-pub by_more_than_two : (P : List ℕ → Type 0) → ((x y : ℕ) (rest : List ℕ) → P (x ∷ y ∷ rest)) → (p : List ℕ) → 2 ≤ length p → P p
+pub by_more_than_two : (P : List ℕ → Type 0) → ((x y : ℕ) (rest : List ℕ) → P (x ∷ y ∷ rest)) → (p : List ℕ)
+    → 2 ≤ length p
+    → P p
 by_more_than_two P h [] most = absurd (omega arith)
 by_more_than_two P h (x ∷ []) most = absurd (omega arith)
 by_more_than_two P h (x ∷ y ∷ rest) most = h x y rest
@@ -25,7 +27,10 @@ pub record AreParts (w count : ℕ) (p : List ℕ) : Type 0 where
 pub parts : (w count : ℕ) (p : List ℕ) → IsTuple w (2 + count) p → AreParts w count p
 parts w count p h = by_more_than_two (λ p. IsTuple w (2 + count) p → AreParts w count p)
     (λ x y rest t. record {
-      front = record { counted = refl; words = AreWords-cons w x (y ∷ []) (t.words 0) (AreWords-cons w y [] (t.words 1) (AreWords-nil w)) };
+      front = record {
+        counted = refl;
+        words = AreWords-cons w x (y ∷ []) (t.words 0) (AreWords-cons w y [] (t.words 1) (AreWords-nil w));
+      };
       back = record { counted = omega (arith, t.counted); words = λ i. t.words (suc (suc i)) };
       whole = refl;
       start = refl;
@@ -43,7 +48,10 @@ pub record HasMade (w count : ℕ) (x y : List ℕ) : Type 0 where
 pub made : (w count : ℕ) (x y : List ℕ) → IsTuple w 2 x → IsTuple w count y → HasMade w count x y
 made w count x y hx hy = by_two (λ x. IsTuple w 2 x → HasMade w count x y)
     (λ c d t. record {
-      tuple = record { counted = omega (arith, hy.counted); words = AreWords-cons w c (d ∷ y) (t.words 0) (AreWords-cons w d y (t.words 1) hy.words) };
+      tuple = record {
+        counted = omega (arith, hy.counted);
+        words = AreWords-cons w c (d ∷ y) (t.words 0) (AreWords-cons w d y (t.words 1) hy.words);
+      };
       front = refl;
       back = refl;
       start = refl;
@@ -63,10 +71,11 @@ paired walks first second few = record { walks = walks; first = first; second = 
 
 -- The parts of values of a pair.
 module _ {a b : Abstraction} (laws : ArePaired a b) where
-  -- two words are a tuple of the first domain, and the other way round
+  -- two words are a tuple of the first domain
   pub as_first : (w : ℕ) (x : List ℕ) → IsTuple w 2 x → IsTuple w a.meaning.fields x
   as_first w x h = subst (λ n. IsTuple w n x) (sym laws.walks.has_two_fields) h
 
+  -- a tuple of the first domain has two words
   pub of_first : (w : ℕ) (x : List ℕ) → IsTuple w a.meaning.fields x → IsTuple w 2 x
   of_first w x h = subst (λ n. IsTuple w n x) laws.walks.has_two_fields h
 
@@ -89,7 +98,9 @@ module _ {a b : Abstraction} (laws : ArePaired a b) where
       }
 
   -- values of both that meet are a value of the pair
-  pub value : (w : ℕ) (x y : List ℕ) → IsAbstract a.meaning w x → IsAbstract b.meaning w y → b.meaning.Member w y (slice_index x 0) → IsAbstract (pairs a.meaning b.meaning) w (x ++ y)
+  pub value : (w : ℕ) (x y : List ℕ) → IsAbstract a.meaning w x → IsAbstract b.meaning w y
+      → b.meaning.Member w y (slice_index x 0)
+      → IsAbstract (pairs a.meaning b.meaning) w (x ++ y)
   value w x y hx hy meets =
       let known = made w b.meaning.fields x y (of_first w x hx.tuple) hy.tuple in
       record {
@@ -97,29 +108,43 @@ module _ {a b : Abstraction} (laws : ArePaired a b) where
         valid = (
           subst (a.meaning.Valid w) (sym known.front) hx.valid,
           subst (b.meaning.Valid w) (sym known.back) hy.valid,
-          subst (λ z. b.meaning.Member w z (slice_index (x ++ y) 0)) (sym known.back) (subst (b.meaning.Member w y) (sym known.start) meets),
+          subst (λ z. b.meaning.Member w z (slice_index (x ++ y) 0)) (sym known.back)
+              (subst (b.meaning.Member w y) (sym known.start) meets),
         );
       }
 
   -- the members of what is put together are those of both
-  pub member : (w : ℕ) (x y : List ℕ) (c : ℕ) → IsTuple w 2 x → IsTuple w b.meaning.fields y → a.meaning.Member w x c → b.meaning.Member w y c → (pairs a.meaning b.meaning).Member w (x ++ y) c
+  pub member : (w : ℕ) (x y : List ℕ) (c : ℕ) → IsTuple w 2 x → IsTuple w b.meaning.fields y → a.meaning.Member w x c
+      → b.meaning.Member w y c
+      → (pairs a.meaning b.meaning).Member w (x ++ y) c
   member w x y c hx hy in_x in_y =
-      let known = made w b.meaning.fields x y hx hy in
-      (subst (λ z. a.meaning.Member w z c) (sym known.front) in_x, subst (λ z. b.meaning.Member w z c) (sym known.back) in_y)
+      let known = made w b.meaning.fields x y hx hy in (
+        subst (λ z. a.meaning.Member w z c) (sym known.front) in_x,
+        subst (λ z. b.meaning.Member w z c) (sym known.back) in_y,
+      )
 
-  -- the parts as they are taken out of a tuple, and of a value
-  pub front-IsTuple : (w : ℕ) (p x : List ℕ) → x ≡ first p → IsTuple w (2 + b.meaning.fields) p → IsTuple w a.meaning.fields x
-  front-IsTuple w p x e h = subst (IsTuple w a.meaning.fields) (sym e) (as_first w (first p) (parts w b.meaning.fields p h).front)
+  -- the first part of a tuple is a tuple of the first domain
+  pub front-IsTuple : (w : ℕ) (p x : List ℕ) → x ≡ first p → IsTuple w (2 + b.meaning.fields) p
+      → IsTuple w a.meaning.fields x
+  front-IsTuple w p x e h =
+      subst (IsTuple w a.meaning.fields) (sym e) (as_first w (first p) (parts w b.meaning.fields p h).front)
 
-  pub back-IsTuple : (w : ℕ) (p y : List ℕ) → y ≡ second p → IsTuple w (2 + b.meaning.fields) p → IsTuple w b.meaning.fields y
+  -- the second part of a tuple is a tuple of the second domain
+  pub back-IsTuple : (w : ℕ) (p y : List ℕ) → y ≡ second p → IsTuple w (2 + b.meaning.fields) p
+      → IsTuple w b.meaning.fields y
   back-IsTuple w p y e h = subst (IsTuple w b.meaning.fields) (sym e) (parts w b.meaning.fields p h).back
 
-  pub front-IsAbstract : (w : ℕ) (p x : List ℕ) → x ≡ first p → IsAbstract (pairs a.meaning b.meaning) w p → IsAbstract a.meaning w x
+  -- the first part of a pair's value is a value of the first domain
+  pub front-IsAbstract : (w : ℕ) (p x : List ℕ) → x ≡ first p → IsAbstract (pairs a.meaning b.meaning) w p
+      → IsAbstract a.meaning w x
   front-IsAbstract w p x e h = subst (IsAbstract a.meaning w) (sym e) (values w p h).front
 
-  pub back-IsAbstract : (w : ℕ) (p y : List ℕ) → y ≡ second p → IsAbstract (pairs a.meaning b.meaning) w p → IsAbstract b.meaning w y
+  -- the second part of a pair's value is a value of the second domain
+  pub back-IsAbstract : (w : ℕ) (p y : List ℕ) → y ≡ second p → IsAbstract (pairs a.meaning b.meaning) w p
+      → IsAbstract b.meaning w y
   back-IsAbstract w p y e h = subst (IsAbstract b.meaning w) (sym e) (values w p h).back
 
   -- at most four words
-  pub few_words : (w : ℕ) (x y : List ℕ) → IsTuple w a.meaning.fields x → IsTuple w b.meaning.fields y → length x + length y ≤ 4
+  pub few_words : (w : ℕ) (x y : List ℕ) → IsTuple w a.meaning.fields x → IsTuple w b.meaning.fields y
+      → length x + length y ≤ 4
   few_words w x y hx hy = omega (arith, hx.counted, hy.counted, laws.walks.has_two_fields, laws.few)

@@ -1,8 +1,7 @@
 -- The words of a walk: words, each with more steps to it than the ones before.
-use Rattle.std.proofs.Common.{◌≡◌, ℕ, suc, ◌+◌, ◌-◌, ◌%◌, ◌^◌, ◌<◌, ◌⊎◌, inl, inr, List, slice_index, refl, ◌∙◌, arith}
+use Rattle.std.proofs.Common.{ℕ, suc, ◌^◌, ◌<◌, List, slice_index, arith}
 use Rattle.std.specs.Prelude.{All, AllPairs}
-use Rattle.std.proofs.Math.Nat.{mod-eq_of_lt, mod-eq-sub-mod, mod-lt}
-use Rattle.std.proofs.lemmas.Bool.{cases_lt}
+use Rattle.std.proofs.Math.Nat.{mod-lt}
 use Rattle.std.proofs.lemmas.Nat.{pow_pos}
 use Rattle.am_domain.specs.Tuple.{IsTuple}
 use Rattle.am_domain.specs.Walk.{steps, walk}
@@ -13,7 +12,8 @@ pub All-walk : (w : ℕ) (a : List ℕ) → IsTuple w 2 a → All (λ c. c < 2 ^
 All-walk w a tuple i d below =
     let first = slice_index a 0 in
     let n = suc (steps w first (slice_index a 1)) in
-    rw (get_or-upwards w n first i d (tuple.words 0) (omega (arith, below, length-upwards w n first))) (mod-lt _ (pow_pos w))
+    rw (get_or-upwards w n first i d (tuple.words 0) (omega (arith, below, length-upwards w n first)))
+    (mod-lt _ (pow_pos w))
 
 -- more and more steps lead to the words of a walk
 pub AllPairs-walk : (w : ℕ) (a : List ℕ) → IsTuple w 2 a →

@@ -15,7 +15,7 @@ pub record AreSoundInputs (p : Problem) (vars : ℕ) (i : SoundInputs) : Type 0 
   pub fields_inside : AreWordsIn p.width (all_fields p) vars i.fields
   pub words_inside : AreWordsIn p.width p.inputs vars i.words
 
--- those of a formula of precision, which stand behind the first x variables
+-- those of a formula of precision, which stand after the first x variables
 pub record ArePreciseInputs (p : Problem) (x vars : ℕ) (i : PreciseInputs) : Type 0 where
   pub fields : i.fields ≡ words_from p.width (all_fields p) x
   pub word : i.word ≡ word_from p.width (x + all_fields p * p.width)

@@ -23,6 +23,7 @@ failing p terms fields words = do
   result ← outputs p terms fields
   refused (member_test p result value)
 
+-- the most gates and clauses that are stated for soundness
 abbrev pub failing_weight : Problem → List Term → ℕ
 failing_weight p terms =
     p.inputs * (valid_weight p + 1) + p.inputs * (member_weight p + 1) + (assumption_weight p.width p.assume + 1)
@@ -37,12 +38,13 @@ comparing p terms fields word = do
   u ← forced (member_test p result word)
   refused (member_test p closer word)
 
+-- the most gates and clauses that are stated for precision after the fit
 abbrev pub comparing_weight : Problem → List Term → ℕ
 comparing_weight p terms =
     p.inputs * (valid_weight p + 1) + weight_of_block (encoding_of p) + sum_by (weight p.width) terms
     + (member_weight p + 1) + (member_weight p + 1)
 
--- behind a fit, words of inputs at which the chosen transformer is closer than the terms
+-- after a fit, words of inputs at which the chosen transformer is closer than the terms
 unfoldable pub sought : Problem → List Term → Step (Unit {0})
 sought p terms = do
   fields ← input_words p.width (all_fields p)

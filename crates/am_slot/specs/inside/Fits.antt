@@ -26,6 +26,7 @@ pub record IsFit (w count : ℕ) (p : Production) : Type 0 where
   pub small : IsSmall p
   pub short : length (arguments p) ≤ 3
 
+-- what all productions of a table are, over so many fields
 pub record AreFit (w count : ℕ) (rules : Rules) : Type 0 where
   pub productions : All (All (IsFit w count)) rules
   pub inside : AreInside (length rules) rules
@@ -40,5 +41,6 @@ pub record AreWordsOf (w count vars : ℕ) (words : List (List ℕ)) : Type 0 wh
 abbrev pub ArgumentsStand : List Argument → Production → Type 0
 ArgumentsStand children p = AllByRecursion (λ a. list_any (same a) children ≡ true) (arguments p)
 
+-- each argument of each of the productions is one of the children
 abbrev pub AllStand : List Argument → List Numbered → Type 0
 AllStand children ps = AllByRecursion (λ p. ArgumentsStand children p.production) ps

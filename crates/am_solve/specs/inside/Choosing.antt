@@ -1,15 +1,10 @@
 -- What the choice of the next decision keeps true.
-use Rattle.std.specs.Prelude.{ℕ, ◌≡◌, ◌<◌, Bool, List, All, Contains, length, map, ◌⊎◌}
+use Rattle.std.specs.Prelude.{ℕ, ◌≡◌, ◌<◌, Bool, List, All, Contains, length, ◌⊎◌}
 use Rattle.am_lit.specs.Literal.{variable_of}
 use Rattle.am_lit.specs.UnitRow.{IsFree}
 use Rattle.am_trail.specs.Orders.{Ranked}
-use Rattle.am_trail.specs.Trails.{literals}
-use Rattle.am_trail.specs.Trails.{Assigned}
+use Rattle.am_trail.specs.Trails.{Assigned, HasValue, literals}
 use Rattle.am_trail.specs.declared.entry.Entry.{Entry}
-
--- the variable has a value
-abbrev pub HasValue : List Entry → ℕ → Type 0
-HasValue entries v = Contains (map variable_of (literals entries)) v
 
 -- each variable below a number has a value
 abbrev pub IsTotal : ℕ → List Entry → Type 0

@@ -6,14 +6,10 @@ use Rattle.std.specs.List.Sorted.{IsStrictlyIncreasing}
 use Rattle.am_lit.specs.Literal.{opposite_of, variable_of}
 use Rattle.am_lit.specs.UnitRow.{IsForcedBy, IsSettled}
 use Rattle.am_trail.specs.declared.entry.Entry.{Entry}
-use Rattle.am_trail.specs.Trails.{literals}
-use Rattle.am_trail.specs.Trails.{Assigned, upto}
+use Rattle.am_trail.specs.Trails.{literals, Assigned, upto}
 use Rattle.am_chain.specs.declared.chain.Step.{Step}
 use Rattle.am_chain.specs.Chains.{after_steps}
-
--- whether a place is marked
-abbrev pub mark_at : List Bool → ℕ → Bool
-mark_at marks k = slice_index_or marks k false
+use Rattle.am_chain.specs.inside.Marks.{mark_at}
 
 -- the clause has exactly the opposites of the literals at the marked places
 pub record IsMarked (row : List ℕ) (marks : List Bool) (c : List ℕ) : Type 0 where
@@ -101,6 +97,16 @@ WasDecided entries place = IsDecided entries (opposite_of (slice_index (literals
 abbrev pub IsReasonAt : List (List ℕ) → List ℕ → ℕ → ℕ → Type 0
 IsReasonAt clauses row r i = IsForcedBy (take i row) (slice_index_or clauses r []) (slice_index row i)
 
+-- the literal at a place can be resolved away: it is marked and counted, and a clause in order forced it
+pub record CanResolve (clauses : List (List ℕ)) (entries : List Entry) (marks : List Bool) (start reason i : ℕ)
+    : Type 0 where
+  pub number : reason < length clauses
+  pub forced : IsReasonAt clauses (literals entries) reason i
+  pub rises : IsStrictlyIncreasing (slice_index_or clauses reason [])
+  pub inside : i < length entries
+  pub marked : mark_at marks i ≡ true
+  pub high : start ≤ i
+
 -- the entries after a place were implied
 abbrev pub AreImpliedAfter : ℕ → List Entry → Type 0
 AreImpliedAfter start entries =
@@ -110,3 +116,9 @@ AreImpliedAfter start entries =
 abbrev pub HasOpposite : List ℕ → ℕ → List ℕ → Type 0
 HasOpposite row start c =
     (k : ℕ) × (start ≤ k) × (k < length row) × Contains c (opposite_of (slice_index row k))
+
+-- from a place on a clause leads to one literal: it has the opposite of one there, and those after the first were
+-- implied
+pub record LeadsToOne (clauses : List (List ℕ)) (entries : List Entry) (start conflict : ℕ) : Type 0 where
+  pub implied : AreImpliedAfter start entries
+  pub reaches : HasOpposite (literals entries) start (slice_index_or clauses conflict [])

@@ -1,5 +1,5 @@
 -- The words of the code's own types.
-use Rattle.std.specs.Prelude.{ℕ, ◌∷◌, ◌++◌, [], List, Option}
+use Rattle.std.specs.Prelude.{ℕ, ◌≡◌, ◌+◌, ◌≤◌, ◌∷◌, ◌++◌, [], List, Option, length}
 use Rattle.am_chain.specs.declared.chain.Step.{Step}
 use Rattle.am_trail.specs.Trails.{Assigned, literals}
 use Rattle.am_trail.specs.declared.entry.Entry.{Entry}
@@ -8,12 +8,21 @@ use Rattle.am_solve.specs.declared.choice.Choice.{Choice}
 use Rattle.am_solve.specs.declared.marks.Marks.{Marks}
 use Rattle.am_solve.specs.declared.search.Search.{Search}
 use Rattle.am_solve.specs.inside.Choosing.{IsReady}
-use Rattle.am_solve.specs.inside.Marking.{IsAnalysed, IsCounted, IsDerived, IsMarkedMore, IsResolved}
+use Rattle.am_solve.specs.inside.Marking.{CanResolve, IsAnalysed, IsCounted, IsDerived, IsMarkedMore, IsResolved}
 use Rattle.am_solve.specs.inside.Searching.{HasDescended, IsSearching, KeepsTo, SettledBelow}
 
 -- the marks count those from their start on, and keep the others
 abbrev pub Counts : List ℕ → Marks → Type 0
 Counts row m = IsCounted row m.start m.places.items m.kept.items m.count
+
+-- the marks have a place for each entry of a trail, and count or keep its literals
+pub record FitsTrail (t : Assigned) (m : Marks) : Type 0 where
+  pub len : length m.places.items ≡ length t.entries
+  pub counted : Counts (literals t.entries) m
+
+-- the literal at a place can be resolved away
+abbrev pub CanResolveAt : List (List ℕ) → Assigned → Marks → ℕ → ℕ → Type 0
+CanResolveAt clauses t m reason i = CanResolve clauses t.entries m.places.items m.start reason i
 
 -- the false literals of a clause were marked too, but for one
 abbrev pub MarksMore : List ℕ → Marks → Marks → List ℕ → ℕ → Type 0
@@ -26,6 +35,15 @@ HasDerived clauses t m first steps i = IsDerived clauses (literals t.entries) m.
 -- the steps have come to the marked clause, and of the places from one on only decided ones are marked
 abbrev pub HasResolved : List (List ℕ) → Assigned → Marks → ℕ → List Step → ℕ → Type 0
 HasResolved clauses t m first steps i = IsResolved clauses t.entries m.places.items first steps i
+
+-- the literal at a place was resolved away: what the steps had come to from the next place on, they have come to from
+-- this one on
+pub record HasResolvedAt (clauses : List (List ℕ)) (t : Assigned) (old new : Marks) (steps more : List Step) (i : ℕ)
+    : Type 0 where
+  pub fits : FitsTrail t new
+  pub count : old.count ≤ new.count + 1
+  pub derived : (first : ℕ) → HasDerived clauses t old first steps (i + 1) → HasDerived clauses t new first more i
+  pub resolved : (first : ℕ) → HasResolved clauses t old first steps (i + 1) → HasResolved clauses t new first more i
 
 -- what an analysis found
 abbrev pub IsAnalysis : List (List ℕ) → Assigned → ℕ → Found → Type 0

@@ -1,6 +1,7 @@
 -- What the search keeps true between trail, watches, clauses and log.
 use Rattle.std.specs.Prelude.{ℕ, ◌≡◌, ◌<◌, ◌≤◌, List, [], ◌++◌, All, Contains, length, slice_index_or, Option, Some}
 use Rattle.std.specs.Prelude.{None}
+use Rattle.std.specs.List.Sorted.{IsStrictlyIncreasing}
 use Rattle.am_lit.specs.Clause.{IsNormal}
 use Rattle.am_lit.specs.Literal.{variable_of}
 use Rattle.am_lit.specs.SearchLaws.{IsFalseIn}
@@ -8,8 +9,7 @@ use Rattle.am_lit.specs.UnitRow.{AllNew, IsOver, IsSettled}
 use Rattle.am_chain.specs.declared.chain.Chain.{Chain}
 use Rattle.am_chain.specs.Replay.{Derives}
 use Rattle.am_trail.specs.declared.entry.Entry.{Entry}
-use Rattle.am_trail.specs.Trails.{literals}
-use Rattle.am_trail.specs.Trails.{Assigned, upto}
+use Rattle.am_trail.specs.Trails.{literals, Assigned, upto}
 use Rattle.am_solve.specs.inside.Choosing.{IsTotal}
 use Rattle.am_watch.specs.Watching.{Holds, IsExplained, Watched}
 
@@ -38,11 +38,14 @@ pub record KeepsTo (base : List ℕ) (learnt : List (List ℕ)) (entries : List 
 abbrev pub IsFalseClause : List (List ℕ) → List Entry → ℕ → Type 0
 IsFalseClause clauses entries i = IsFalseIn (literals entries) (slice_index_or clauses i [])
 
+-- a clause is false, and can be traced back: the clauses are in order, and each implied literal has its reason
+pub record IsConflict (clauses : List (List ℕ)) (entries : List Entry) (conflict : ℕ) : Type 0 where
+  pub number : conflict < length clauses
+  pub untrue : IsFalseClause clauses entries conflict
+  pub rise : All IsStrictlyIncreasing clauses
+  pub explained : IsExplained 0 clauses entries
+
 -- a clause is false; or all are settled, and each variable has a value
 abbrev pub HasDescended : List (List ℕ) → ℕ → List Entry → Option ℕ → Type 0
 HasDescended clauses vars entries (Some i) = (i < length clauses) × IsFalseClause clauses entries i
 HasDescended clauses vars entries None = All (IsSettled (literals entries)) clauses × IsTotal vars entries
-
--- a literal that was decided at a level
-abbrev pub decided_at : ℕ → ℕ → Entry
-decided_at l level' = record { literal = l; level = level'; reason = None }

@@ -11,7 +11,7 @@ parent_of i = (i - 1) / 2
 abbrev pub IsAfter : List ℕ → List ℕ → ℕ → ℕ → Type 0
 IsAfter activities heap i j = comes_before activities (slice_index heap i) (slice_index heap j) ≡ false
 
--- no variable comes before its parent, where that stands at a place or behind it
+-- no variable comes before its parent, where that stands at a place or after it
 abbrev pub IsHeapFrom : ℕ → List ℕ → List ℕ → Type 0
 IsHeapFrom low activities heap =
     (i : ℕ) → 0 < i → i < length heap → low ≤ parent_of i → IsAfter activities heap i (parent_of i)

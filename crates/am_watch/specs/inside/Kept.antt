@@ -4,5 +4,6 @@ use Rattle.am_trail.specs.Trails.{Assigned}
 use Rattle.am_watch.specs.declared.watches.Watches.{Watches}
 use Rattle.am_watch.specs.Watching.{Keeps}
 
+-- the invariant of the fields, with the clauses and the trail
 abbrev pub IsKept : Watches → List (List ℕ) → Assigned → Type 0
 IsKept w clauses t = Keeps w.lists w.pairs.items w.fresh.items clauses t

@@ -1,7 +1,6 @@
 -- Wrapped intervals that lie in others.
-use Rattle.std.proofs.Common.{◌≡◌, ℕ, ◌+◌, ◌-◌, ◌%◌, ◌^◌, ◌<◌, ◌≤◌, ◌⊎◌, inl, inr, ◌↔◌, Bool, true, false, ◌&&◌, ◌||◌}
-use Rattle.std.proofs.Common.{nat_lt, nat_le, ◌==◌, IsTrue, List, [], ◌∷◌, slice_index, if◌then◌else◌, refl, sym, ap}
-use Rattle.std.proofs.Common.{◌∙◌, arith}
+use Rattle.std.proofs.Common.{◌≡◌, ℕ, ◌+◌, ◌-◌, ◌%◌, ◌^◌, ◌<◌, ◌≤◌, ◌⊎◌, inl, inr, ◌↔◌, Bool, true, false, ◌||◌, nat_lt}
+use Rattle.std.proofs.Common.{nat_le, ◌==◌, IsTrue, List, if◌then◌else◌, refl, sym, ◌∙◌, arith}
 use Rattle.std.proofs.Math.Nat.{mod-lt}
 use Rattle.std.proofs.lemmas.Nat.{pow_pos}
 use Rattle.std.proofs.lemmas.Bool.{cases_lt, and_parts}
@@ -9,8 +8,8 @@ use Rattle.std.proofs.lemmas.Bool.Decides.{nat_tests}
 use Rattle.am_domain.specs.Tuple.{IsTuple}
 use Rattle.am_domain.specs.Walk.{steps}
 use Rattle.am_domain.proofs.Laws.{pair-IsTuple, steps-word, steps-cases, steps-on, steps-self, steps-upwards}
-use Rattle.am_wrap.specs.WrappedIntervals.{start, end, span, IsOnTheWay, LiesIn, lies_in, both_lie_in, across, round_from}
-use Rattle.am_wrap.specs.WrappedIntervals.{narrower, bridge, wrapped_join}
+use Rattle.am_wrap.specs.WrappedIntervals.{start, end, span, IsOnTheWay, LiesIn, lies_in, both_lie_in, across}
+use Rattle.am_wrap.specs.WrappedIntervals.{round_from, narrower, bridge, wrapped_join}
 
 -- two words are a tuple
 pub ruleset tuples = (pair-IsTuple)
@@ -29,14 +28,17 @@ lies : (w : ℕ) (a b : List ℕ) → lies_in w a b ≡ true → Lies w a b
 lies w a b e = (lies_in-tells w a b).0 e
 
 outside : (w : ℕ) (a b : List ℕ) → lies_in w a b ≡ false → ¬ Lies w a b
-outside w a b e h = let yes : lies_in w a b ≡ true = (lies_in-tells w a b).1 h in let no : true ≡ false = sym yes ∙ e in cc
+outside w a b e h =
+    let yes : lies_in w a b ≡ true = (lies_in-tells w a b).1 h in let no : true ≡ false = sym yes ∙ e in cc
 
 -- each interval lies in itself, and in all words
 pub Lies-refl : (w : ℕ) (a : List ℕ) → IsTuple w 2 a → Lies w a a
 Lies-refl w a h = inr (omega (arith, steps-self w (start a) (h.words 0)))
 
 -- a member of an interval is one of each in which it lies
-pub Lies-members : (w : ℕ) (a b : List ℕ) → IsTuple w 2 a → IsTuple w 2 b → Lies w a b → (c : ℕ) → c < 2 ^ w → IsOnTheWay w a c → IsOnTheWay w b c
+pub Lies-members : (w : ℕ) (a b : List ℕ) → IsTuple w 2 a → IsTuple w 2 b → Lies w a b → (c : ℕ) → c < 2 ^ w →
+    IsOnTheWay w a c →
+    IsOnTheWay w b c
 Lies-members w a b ha hb lie c below member =
     elim lie [
       | inl all ↦ omega (arith, all, steps-word w (start b) c)
@@ -77,7 +79,9 @@ lies_in-members w a b ha hb =
     (λ h. Lies-members w a b ha hb (tells.0 h), λ within. tells.1 (members-Lie w a b ha hb within))
 
 -- an interval in which two lie is wider than the first where the second doesn't lie in that
-pub wider : (w : ℕ) (a b c : List ℕ) → IsTuple w 2 a → IsTuple w 2 b → IsTuple w 2 c → Lies w a c → Lies w b c → ¬ Lies w b a → span w a < span w c
+pub wider : (w : ℕ) (a b c : List ℕ) → IsTuple w 2 a → IsTuple w 2 b → IsTuple w 2 c → Lies w a c → Lies w b c →
+    ¬ Lies w b a →
+    span w a < span w c
 wider w a b c ha hb hc first second apart =
     elim (cases_lt (span w a) (span w c)) [
       | inl less ↦ less
@@ -93,7 +97,8 @@ wider w a b c ha hb hc first second apart =
       ]))
     ]
 
--- what the rules of a join lead to: an interval in which both lie, which is the first or has a word of the second that the first lacks
+-- what the rules of a join lead to: an interval in which both lie, which is the first or has a word of the second that
+-- the first lacks
 pub record IsAbove (w : ℕ) (a b joined : List ℕ) : Type 0 where
   pub tuple : IsTuple w 2 joined
   pub start : (start joined ≡ start a) ⊎ (start joined ≡ start b)
@@ -103,10 +108,17 @@ pub record IsAbove (w : ℕ) (a b joined : List ℕ) : Type 0 where
 
 module _ (w : ℕ) (one : 1 < 2 ^ w) (a b : List ℕ) (ha : IsTuple w 2 a) (hb : IsTuple w 2 b) (apart : ¬ Lies w b a) where
   -- an interval across both in which both lie
-  candidate : (c : List ℕ) → IsTuple w 2 c → (start c ≡ start a) ⊎ (start c ≡ start b) → both_lie_in w a b c ≡ true → IsAbove w a b c
+  candidate : (c : List ℕ) → IsTuple w 2 c → (start c ≡ start a) ⊎ (start c ≡ start b) → both_lie_in w a b c ≡ true →
+      IsAbove w a b c
   candidate c tuple starts e =
       let parts = and_parts _ _ e in
-      record { tuple = tuple; start = starts; first = lies w a c parts.0; second = lies w b c parts.1; kept = inr apart }
+      record {
+        tuple = tuple;
+        start = starts;
+        first = lies w a c parts.0;
+        second = lies w b c parts.1;
+        kept = inr apart;
+      }
 
   there-IsAbove : both_lie_in w a b (across a b) ≡ true → IsAbove w a b (across a b)
   there-IsAbove = candidate (across a b) (pair-IsTuple w _ _ (ha.words 0) (hb.words 1)) (inl refl)
@@ -135,7 +147,8 @@ module _ (w : ℕ) (one : 1 < 2 ^ w) (a b : List ℕ) (ha : IsTuple w 2 a) (hb :
     kept = inr apart;
   }
 
-  narrower-IsAbove : (there back : Bool) → both_lie_in w a b (across a b) ≡ there → both_lie_in w a b (across b a) ≡ back →
+  narrower-IsAbove : (there back : Bool) → both_lie_in w a b (across a b) ≡ there →
+      both_lie_in w a b (across b a) ≡ back →
       IsAbove w a b (narrower w (start a) (across a b) (across b a) there back)
   narrower-IsAbove true true e f = at (nat_lt (span w (across b a)) (span w (across a b)))
     where
@@ -146,10 +159,20 @@ module _ (w : ℕ) (one : 1 < 2 ^ w) (a b : List ℕ) (ha : IsTuple w 2 a) (hb :
   narrower-IsAbove false true e f = back-IsAbove f
   narrower-IsAbove false false e f = round-IsAbove
 
-pub join-IsAbove : (w : ℕ) → 1 < 2 ^ w → (a b : List ℕ) → IsTuple w 2 a → IsTuple w 2 b → IsAbove w a b (wrapped_join w a b)
+-- the join of two wrapped intervals is one that both lie in
+pub join-IsAbove : (w : ℕ) → 1 < 2 ^ w → (a b : List ℕ) → IsTuple w 2 a → IsTuple w 2 b →
+    IsAbove w a b (wrapped_join w a b)
 join-IsAbove w one a b ha hb = at (lies_in w b a) refl (lies_in w a b) refl
   where
-    at : (s : Bool) → lies_in w b a ≡ s → (t : Bool) → lies_in w a b ≡ t → IsAbove w a b (if s then a else if t then b else bridge w a b)
-    at true e t f = record { tuple = ha; start = inl refl; first = Lies-refl w a ha; second = lies w b a e; kept = inl refl }
-    at false e true f = record { tuple = hb; start = inr refl; first = lies w a b f; second = Lies-refl w b hb; kept = inr (outside w b a e) }
+    at : (s : Bool) → lies_in w b a ≡ s → (t : Bool) → lies_in w a b ≡ t →
+        IsAbove w a b (if s then a else if t then b else bridge w a b)
+    at true e t f =
+        record { tuple = ha; start = inl refl; first = Lies-refl w a ha; second = lies w b a e; kept = inl refl }
+    at false e true f = record {
+      tuple = hb;
+      start = inr refl;
+      first = lies w a b f;
+      second = Lies-refl w b hb;
+      kept = inr (outside w b a e);
+    }
     at false e false f = narrower-IsAbove w one a b ha hb (outside w b a e) _ _ refl refl

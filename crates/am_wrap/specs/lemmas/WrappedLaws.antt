@@ -4,20 +4,18 @@ use Rattle.std.proofs.Common.{nat_lt, nat_le, refl, arith, lit≤}
 use Rattle.std.proofs.lemmas.Bool.{lt-ltb}
 use Rattle.std.proofs.lemmas.Bool.Decides.{nat_tests}
 use Rattle.std.proofs.lemmas.Nat.{pow_pos}
-use Rattle.am_bv.specs.Words.{IsWidth, one_if}
+use Rattle.am_bv.specs.Words.{one_if}
 use Rattle.am_bv.specs.Terms.{val}
 use Rattle.am_bv.proofs.Laws.{one_is_word, val-Const, val-Field, val-binary, fits-Const, fits-Field, fits-Node}
 use Rattle.am_bv.proofs.Laws.{nodes-Const, nodes-Field, nodes-Node}
 use Rattle.am_domain.specs.Meaning.{IsAbstract}
 use Rattle.am_domain.specs.Laws.{HasMembers, HasTop, HoldsWords, JoinsAbove, Descends, Tidies, TellsValidity}
 use Rattle.am_domain.specs.Laws.{TellsMembership, KeepsLaws}
-use Rattle.am_domain.specs.AnchoredLaws.{HasStart, HasPoints, KeepsStart, WalksMembers, HasParts}
-use Rattle.am_domain.specs.AnchoredLaws.{IsAnchored}
+use Rattle.am_domain.specs.AnchoredLaws.{HasStart, HasPoints, KeepsStart, WalksMembers, HasParts, IsAnchored}
 use Rattle.am_domain.specs.Walk.{point, steps}
 use Rattle.am_domain.proofs.Laws.{pair-IsTuple, by_three, steps-word, steps-cases, steps-self, Contains-walk}
 use Rattle.am_domain.proofs.Laws.{part-IsPart}
-use Rattle.am_wrap.specs.WrappedIntervals.{start, end, span, IsOnTheWay, wrapped_intervals, wrapped_top}
-use Rattle.am_wrap.specs.WrappedIntervals.{all_wrapped_intervals}
+use Rattle.am_wrap.specs.WrappedIntervals.{start, end, IsOnTheWay, wrapped_intervals, all_wrapped_intervals}
 use Rattle.am_wrap.specs.WrappedIntervals.{wrapped_join, wrapped_member_term}
 use Rattle.am_wrap.specs.lemmas.Lying.{Lies-members, wider, join-IsAbove}
 
@@ -41,7 +39,8 @@ has_top w width = (
     all : steps w 0 (2 ^ w - 1) ≡ 2 ^ w - 1
     all =
         let last : 2 ^ w - 1 < 2 ^ w = omega (arith, pow_pos w) in
-        elim (steps-cases w 0 (2 ^ w - 1) (pow_pos w) last) [ inl up ↦ omega (arith, up.1) | inr round ↦ absurd (omega (arith, round.0)) ]
+        elim (steps-cases w 0 (2 ^ w - 1) (pow_pos w) last)
+        [ inl up ↦ omega (arith, up.1) | inr round ↦ absurd (omega (arith, round.0)) ]
 
 holds_words : HoldsWords all_wrapped_intervals
 holds_words w width c h = (value w c c h h, starts w (point c) h)
@@ -89,7 +88,8 @@ tells_membership : TellsMembership all_wrapped_intervals
 tells_membership w width = record {
   fit = simp (fits-Node, fits-Field);
   small = simp (nodes-Node, nodes-Field) (lit≤ tt);
-  tells = λ env tuple. by_three (λ env. (val w wrapped_member_term env ≢ 0) ↔ IsOnTheWay w (take 2 env) (slice_index env 2))
+  tells = λ env tuple.
+      by_three (λ env. (val w wrapped_member_term env ≢ 0) ↔ IsOnTheWay w (take 2 env) (slice_index env 2))
       (λ x y c. simp (val-binary, val-Field) (order-tells (steps w x c) (steps w x y)))
       env tuple.counted;
 }
@@ -107,7 +107,8 @@ walks_members : WalksMembers all_wrapped_intervals
 walks_members w width a h c below = let among = Contains-walk w a c h.tuple below in (among.1, among.0)
 
 has_parts : HasParts all_wrapped_intervals
-has_parts w width a h c e hc he in_c in_e order = part-IsPart all_wrapped_intervals refl walks_members w width a h c e hc he order tt
+has_parts w width a h c e hc he in_c in_e order =
+    part-IsPart all_wrapped_intervals refl walks_members w width a h c e hc he order tt
 
 -- all laws of a domain hold
 pub wrapped_laws : KeepsLaws all_wrapped_intervals

@@ -6,7 +6,6 @@ use Rattle.am_cert.specs.Checking.{HasFault}
 use Rattle.am_cert.specs.StoredDraft.{seen_draft}
 use Rattle.am_cert.specs.Texts.{Draft}
 use Rattle.am_flow.specs.Flows.{Flow}
-use Rattle.am_query.specs.declared.fault.Fault.{Fault}
 use Rattle.am_syntax.specs.Readers.{Read}
 use Rattle.am_syntax.specs.Texts.{IsRefusedAt}
 use Rattle.am_syntax.specs.declared.refusal.ReadError.{ReadError}
@@ -19,9 +18,11 @@ use Rattle.amurth.specs.declared.inputs.Drafts.{Drafts}
 
 -- ---- reading
 
+-- stored drafts and a flow as those that they hold
 abbrev pub seen_drafts : Drafts → List Draft × Flow
 seen_drafts d = (map seen_draft d.certificates.items, d.flow)
 
+-- a stored analysis as the one that it holds
 abbrev pub seen_analysis : Analysis → Data
 seen_analysis a = record { certificates = a.certificates.items; flow = a.flow }
 

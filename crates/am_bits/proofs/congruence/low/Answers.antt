@@ -9,4 +9,5 @@ pub returns : goal.returns
 returns c =
     let j = trailing_ones w8 c.args.x in
     rw c.trailing_ones.ensures
-    (ap (λ n. n - 1) (one_shl j 16 (omega (arith, trailing_le 8 (bit_not w8 c.args.x)))) ∙ sym (low-trailing_ones c.args.x (omega (arith, c.ranges.x))))
+    (ap (λ n. n - 1) (one_shl j 16 (omega (arith, trailing_le 8 (bit_not w8 c.args.x))))
+    ∙ sym (low-trailing_ones c.args.x (omega (arith, c.ranges.x))))

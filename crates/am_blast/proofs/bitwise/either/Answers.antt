@@ -9,4 +9,5 @@ unfolding either
 returns-clause-ok c =
     Gives-Follows
     (Makes-either c.args.a c.args.b (place_of c.args.circuit.now) c.requires.first c.requires.second)
-    (rw c.opposite-3.ensures (Follows-bind _ (rw (c.opposite.ensures, c.opposite-2.ensures) at c.in_ok-neither.ensures.ok) Follows-answer))
+    (rw c.opposite-3.ensures
+    (Follows-bind _ (rw (c.opposite.ensures, c.opposite-2.ensures) at c.in_ok-neither.ensures.ok) Follows-answer))

@@ -8,11 +8,16 @@ use Rattle.am_blast.proofs.compare.is_at_most.Goals as goal
 pub add_words-requires-clause-words : goal.add_words-requires-clause-words
 add_words-requires-clause-words c =
     rw (c.as_slice.ensures, c.in_ok-not_a.ensures)
-    (AreWords-opposites c.args.circuit.now.vars c.args.b.now c.args.a.now (AreWords-swapped c.args.circuit.now.vars c.args.a.now c.args.b.now c.requires.words))
+    (AreWords-opposites c.args.circuit.now.vars c.args.b.now c.args.a.now
+    (AreWords-swapped c.args.circuit.now.vars c.args.a.now c.args.b.now c.requires.words))
 
 pub returns-clause-ok : goal.returns-clause-ok
 returns-clause-ok c =
     Gives-Follows
-    (Makes-most _ c.args.a.now c.args.b.now (place_of c.args.circuit.now) (rw c.truth-truth.ensures.truth at c.truth-truth.ensures.inside)
-    (record { bits = refl; inside = c.requires.words.first }) (record { bits = c.requires.words.lengths; inside = c.requires.words.second }))
-    (Follows-most c.args.a.now c.args.b.now _ _ _ (rw (c.as_slice.ensures, c.in_ok-not_a.ensures, c.truth-truth.ensures.truth) at c.in_ok-carry.ensures.ok.follows))
+    (Makes-most _ c.args.a.now c.args.b.now (place_of c.args.circuit.now)
+    (rw c.truth-truth.ensures.truth at c.truth-truth.ensures.inside)
+    (record { bits = refl; inside = c.requires.words.first })
+    (record { bits = c.requires.words.lengths; inside = c.requires.words.second }))
+    (Follows-most c.args.a.now c.args.b.now _ _ _
+    (rw (c.as_slice.ensures, c.in_ok-not_a.ensures, c.truth-truth.ensures.truth)
+    at c.in_ok-carry.ensures.ok.follows))

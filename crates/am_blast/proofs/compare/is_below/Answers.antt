@@ -14,5 +14,6 @@ returns-clause-ok c =
     record {
       follows = rw c.opposite.ensures (Follows-below c.args.a.now c.args.b.now _ _ _ most.follows);
       given = rw c.opposite.ensures (IsLiteral-opposite _ _ most.given);
-      grows = subst (λ n. Grows (3 * n) c.args.circuit.now c.is_at_most.new.circuit) c.requires.words.lengths most.grows;
+      grows =
+          subst (λ n. Grows (3 * n) c.args.circuit.now c.is_at_most.new.circuit) c.requires.words.lengths most.grows;
     }

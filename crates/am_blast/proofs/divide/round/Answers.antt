@@ -17,7 +17,8 @@ add_words-requires-clause-words c =
     let remainder = c.args.remainder.now in
     rw (c.as_slice.ensures, c.in_ok-moved.ensures, c.as_slice-2.ensures, c.in_ok-negated.ensures)
     (record {
-      lengths = length-map divisor opposite_of ∙ sym (length-moved Up c.args.bit 1 remainder ∙ c.requires.words.lengths);
+      lengths =
+          length-map divisor opposite_of ∙ sym (length-moved Up c.args.bit 1 remainder ∙ c.requires.words.lengths);
       first = All-moved Up vars c.args.bit 1 remainder c.requires.bit c.requires.words.second;
       second = All-opposites vars divisor c.requires.words.first;
     })
@@ -29,15 +30,27 @@ at_each_bit-requires-clause-words c =
     (record {
       lengths = sym (rw (c.as_slice.ensures, c.in_ok-moved.ensures) at sum.bits);
       first = sum.inside;
-      second = All-later c.args.circuit.now.vars c.add_words.new.circuit.vars (moved Up c.args.bit 1 c.args.remainder.now) c.in_ok-difference.ensures.begins.vars
-          (All-moved Up c.args.circuit.now.vars c.args.bit 1 c.args.remainder.now c.requires.bit c.requires.words.second);
+      second =
+          All-later c.args.circuit.now.vars c.add_words.new.circuit.vars (moved Up c.args.bit 1 c.args.remainder.now)
+          c.in_ok-difference.ensures.begins.vars
+          (All-moved Up c.args.circuit.now.vars c.args.bit 1 c.args.remainder.now c.requires.bit
+          c.requires.words.second);
     })
 
 pub returns-clause-ok : goal.returns-clause-ok
 returns-clause-ok c =
     Gives-Follows
-    (Makes-round c.args.bit c.args.remainder.now c.args.divisor.now (place_of c.args.circuit.now) (rw c.truth-truth.ensures.truth at c.truth-truth.ensures.inside)
+    (Makes-round c.args.bit c.args.remainder.now c.args.divisor.now (place_of c.args.circuit.now)
+    (rw c.truth-truth.ensures.truth at c.truth-truth.ensures.inside)
     c.requires.words.lengths c.requires.bit c.requires.words.second c.requires.words.first)
-    (Follows-round c.args.bit c.args.remainder.now c.args.divisor.now c.in_ok-next.next (c.in_ok-difference.difference, c.in_ok-difference.carry) _ _ _
-    (rw (c.as_slice.ensures, c.in_ok-moved.ensures, c.as_slice-2.ensures, c.in_ok-negated.ensures, c.truth-truth.ensures.truth) at c.in_ok-difference.ensures.ok.follows)
+    (Follows-round c.args.bit c.args.remainder.now c.args.divisor.now c.in_ok-next.next
+    (c.in_ok-difference.difference, c.in_ok-difference.carry) _ _ _
+    (rw (
+      c.as_slice.ensures,
+      c.in_ok-moved.ensures,
+      c.as_slice-2.ensures,
+      c.in_ok-negated.ensures,
+      c.truth-truth.ensures.truth,
+    )
+    at c.in_ok-difference.ensures.ok.follows)
     (rw (c.as_slice-3.ensures, c.as_slice-4.ensures, c.in_ok-moved.ensures) at c.in_ok-next.ensures.ok.follows))

@@ -12,8 +12,10 @@ returns-in-Not-clause-ok c =
     let args : List (List ℕ) = c.args.args.now in
     let some : 0 < length args = let one : length args ≡ 1 = rw c.in-Not.is at c.requires.count in omega (arith, one) in
     let a = slice_index_or args 0 [] in
-    let here : c.as_slice-a.result.now ≡ a = c.as_slice-a.ensures ∙ (c.index-args-0.is ∙ get_or_default args 0 c.index-args-0.result [] some) in
+    let here : c.as_slice-a.result.now ≡ a =
+    c.as_slice-a.ensures ∙ (c.index-args-0.is ∙ get_or_default args 0 c.index-args-0.result [] some) in
     rw c.in-Not.is
     (IfOk-weaker c.opposites.result (λ r. r ≡ opposites c.as_slice-a.result.now) _
-    (λ r e. rw (e, here) (Gives-answer (IsWord-opposites c.args.w c.args.circuit.now.vars a (c.requires.words 0 [] some))))
+    (λ r e. rw (e, here)
+    (Gives-answer (IsWord-opposites c.args.w c.args.circuit.now.vars a (c.requires.words 0 [] some))))
     c.opposites.ensures)

@@ -8,7 +8,8 @@ pub loop-l-preserved : goal.loop-l-preserved
 loop-l-preserved c = record {
   follows = λ rest end h. rw (c.in_ok-push.ensures.ok, append_assoc)
       (c.loop-l.invariant.follows (c.in_ok-both.both ∷ rest) end
-      (Follows-each_and_at c.loop-l.l-index c.args.b c.l-item.result c.args.word.now _ _ _ _ _ (omega arith) c.l-item.is c.in_ok-both.ensures.ok h));
+      (Follows-each_and_at c.loop-l.l-index c.args.b c.l-item.result c.args.word.now _ _ _ _ _ (omega arith) c.l-item.is
+      c.in_ok-both.ensures.ok h));
   grows = Grows-trans _ c.loop-l.invariant.grows c.in_ok-both.ensures.grows (omega arith);
   begins = Begins-trans c.loop-l.invariant.begins c.in_ok-both.ensures.begins;
 }
@@ -17,4 +18,6 @@ pub returns-clause-ok : goal.returns-clause-ok
 returns-clause-ok c =
     Gives-Follows
     (Makes-each_and c.args.b c.args.word.now (place_of c.args.circuit.now) c.requires.literal c.requires.word)
-    (rw append-nil at (c.loop-l.invariant.follows _ c.loop-l.circuit (Follows-each_and_end c.loop-l.l-index c.args.b c.args.word.now c.loop-l.circuit (omega arith))))
+    (rw append-nil at
+    (c.loop-l.invariant.follows _ c.loop-l.circuit
+    (Follows-each_and_end c.loop-l.l-index c.args.b c.args.word.now c.loop-l.circuit (omega arith))))

@@ -8,7 +8,8 @@ use Rattle.am_blast.proofs.shift.shifted.Given as goal
 
 abbrev pub invariant-loop-k : goal.invariant-loop-k
 invariant-loop-k l = record {
-  follows : (r : List ℕ) (end : Net) → Follows (shifted_from (moved l.direction l.fill) l.k l.word (drop l.k l.by)) l.circuit r end →
+  follows : (r : List ℕ) (end : Net) →
+      Follows (shifted_from (moved l.direction l.fill) l.k l.word (drop l.k l.by)) l.circuit r end →
       Follows (shifted_from (moved l.direction l.fill) 0 l.a l.by) l.initial.circuit r end;
   word : IsWord (length l.a) l.circuit.vars l.word;
   grows : Grows (l.k * length l.a) l.initial.circuit l.circuit;

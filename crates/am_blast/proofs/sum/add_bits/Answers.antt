@@ -8,7 +8,8 @@ pub returns-clause-ok : goal.returns-clause-ok
 unfolding full_adder
 returns-clause-ok c =
     Gives-Follows
-    (Makes-full_adder c.args.a c.args.b c.args.c (place_of c.args.circuit.now) c.requires.first c.requires.second c.requires.third)
+    (Makes-full_adder c.args.a c.args.b c.args.c (place_of c.args.circuit.now) c.requires.first c.requires.second
+    c.requires.third)
     (Follows-bind _ c.in_ok-half.ensures.ok
     (Follows-bind _ c.in_ok-sum.ensures.ok
     (Follows-bind _ c.in_ok-carry.ensures.ok Follows-answer)))

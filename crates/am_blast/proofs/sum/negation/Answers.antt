@@ -10,5 +10,7 @@ sum-requires-clause-words c =
     rw (c.as_slice.ensures, c.in_ok-not_a.ensures, c.as_slice-2.ensures, c.in_ok-zeros.ensures) (record {
       lengths = length-replicate (length c.args.a.now) falsity ∙ sym (length-map c.args.a.now opposite_of);
       first = All-opposites c.args.circuit.now.vars c.args.a.now c.requires.word;
-      second = All-zeros c.args.circuit.now.vars (length c.args.a.now) (rw c.truth-truth.ensures.truth at c.truth-truth.ensures.inside);
+      second =
+          All-zeros c.args.circuit.now.vars (length c.args.a.now)
+          (rw c.truth-truth.ensures.truth at c.truth-truth.ensures.inside);
     })

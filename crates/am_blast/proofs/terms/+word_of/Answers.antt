@@ -1,4 +1,5 @@
-use Rattle.std.proofs.Common.{◌≡◌, ℕ, ◌+◌, ◌<◌, ◌≤◌, List, [], ◌∷◌, length, length-append, take, sum_by, get_or, IsTrue, rules, ap, subst, ◌∙◌, arith, append_assoc, append-nil}
+use Rattle.std.proofs.Common.{◌≡◌, ℕ, ◌+◌, ◌<◌, ◌≤◌, List, [], ◌∷◌, length, length-append, take, sum_by, get_or, IsTrue}
+use Rattle.std.proofs.Common.{rules, ap, subst, ◌∙◌, arith, append_assoc, append-nil}
 use Rattle.std.specs.Prelude.{slice_index_or}
 use Rattle.std.proofs.lemmas.Bool.{ltb-true}
 use Rattle.std.proofs.lemmas.List.{take_all, get_or_default}
@@ -13,7 +14,8 @@ use Rattle.am_bv.proofs.Laws.{fits-Field, fits_arity, fits_child, nodes_up_to, w
 use Rattle.am_blast.specs.Words.{IsWord, constant}
 use Rattle.am_blast.specs.Circuits.{blasted}
 use Rattle.am_blast.proofs.Words.{IsWord-later}
-use Rattle.am_blast.proofs.Blasted.{blasted-Const, blasted-Field, blasted-Node, length-constant, All-constant, Follows-in_turn_at, Follows-in_turn_end}
+use Rattle.am_blast.proofs.Blasted.{blasted-Const, blasted-Field, blasted-Node, length-constant, All-constant}
+use Rattle.am_blast.proofs.Blasted.{Follows-in_turn_at, Follows-in_turn_end}
 use Rattle.am_blast.proofs.terms.+word_of.Goals as goal
 
 pub bounds-fields-i : goal.bounds-fields-i
@@ -32,7 +34,13 @@ word_of-requires t c =
     let node = subst (λ x. IsTrue (fits c.args.w (length c.args.fields.now) x)) c.in-Node.is c.requires.fits in
     let few = nodes_up_to op args i item below at in
     let part : sum_by (weight c.args.w) (take i args) + weight c.args.w item ≤ weight c.args.w c.args.term.now =
-    omega (arith, sum_by_more_le (weight c.args.w) args i item below, ap (weight c.args.w) at, weight-Node c.args.w op args, ap (weight c.args.w) c.in-Node.is) in
+    omega (
+      arith,
+      sum_by_more_le (weight c.args.w) args i item below,
+      ap (weight c.args.w) at,
+      weight-Node c.args.w op args,
+      ap (weight c.args.w) c.in-Node.is,
+    ) in
     let grows = rw c.as_slice-t-items.ensures at c.loop-t.invariant.grows in (
       search (rules, the_lemmas),
       (
@@ -54,15 +62,23 @@ pub loop-t-preserved : goal.loop-t-preserved
 loop-t-preserved t c = record {
   follows = λ rest end h. rw (c.in_ok-push-in-Node.ensures.ok, append_assoc)
       (c.loop-t.invariant.follows (c.in_ok-word-in-Node.word ∷ rest) end
-      (Follows-in_turn_at (blasted c.args.w c.args.fields.now) c.loop-t.t-index c.t-item.result c.as_slice-t-items.result.now _ _ _ _ _
+      (Follows-in_turn_at (blasted c.args.w c.args.fields.now) c.loop-t.t-index c.t-item.result
+      c.as_slice-t-items.result.now _ _ _ _ _
       c.loop-t-test.true c.t-item.is c.in_ok-word-in-Node.ensures.ok.follows h));
-  count = ap length c.in_ok-push-in-Node.ensures.ok ∙ length-append c.loop-t.words (c.in_ok-word-in-Node.word ∷ []) ∙ ap (λ k. k + 1) c.loop-t.invariant.count;
+  count =
+      ap length c.in_ok-push-in-Node.ensures.ok ∙ length-append c.loop-t.words (c.in_ok-word-in-Node.word ∷ [])
+      ∙ ap (λ k. k + 1) c.loop-t.invariant.count;
   words = rw c.in_ok-push-in-Node.ensures.ok
       (All-push (IsWord c.args.w c.word_of.new.circuit.vars) c.loop-t.words c.in_ok-word-in-Node.word
       (λ k d l. IsWord-later _ _ _ _ c.in_ok-word-in-Node.ensures.ok.grows.not_less (c.loop-t.invariant.words k d l))
       c.in_ok-word-in-Node.ensures.ok.given);
   grows = Grows-trans _ c.loop-t.invariant.grows c.in_ok-word-in-Node.ensures.ok.grows
-      (omega (arith, sum_by_more (weight c.args.w) c.as_slice-t-items.result.now c.loop-t.t-index c.t-item.result c.loop-t-test.true, ap (weight c.args.w) c.t-item.is));
+      (omega (
+        arith,
+        sum_by_more (weight c.args.w) c.as_slice-t-items.result.now c.loop-t.t-index c.t-item.result
+            c.loop-t-test.true,
+        ap (weight c.args.w) c.t-item.is,
+      ));
   begins = Begins-trans c.loop-t.invariant.begins c.in_ok-word-in-Node.ensures.begins;
 }
 
@@ -86,7 +102,10 @@ returns-in-Const-clause-ok t c =
     rw (c.in-Const.is, blasted-Const c.args.w c.args.fields.now c.in-Const.c, weight-Const c.args.w c.in-Const.c)
     (IfOk-weaker c.constant.result (λ r. r ≡ constant c.args.w c.in-Const.c) _
     (λ r e. rw e (Gives-answer
-    (record { bits = length-constant c.args.w c.in-Const.c; inside = All-constant c.args.w c.in-Const.c c.args.circuit.now.vars c.requires.truth })))
+    (record {
+      bits = length-constant c.args.w c.in-Const.c;
+      inside = All-constant c.args.w c.in-Const.c c.args.circuit.now.vars c.requires.truth;
+    })))
     c.constant.ensures)
 
 pub returns-in-Field-clause-ok : goal.returns-in-Field-clause-ok
@@ -96,7 +115,9 @@ returns-in-Field-clause-ok t c =
     (let fit = subst (λ x. IsTrue (fits c.args.w (length fields) x)) c.in-Field.is c.requires.fits in
     ltb-true _ _ (subst IsTrue (fits-Field c.args.w (length fields) c.in-Field.i) fit)) in
     let word = slice_index_or fields c.in-Field.i [] in
-    let here : c.as_slice.result.now ≡ word = c.as_slice.ensures ∙ (c.index-fields-i.is ∙ get_or_default fields c.in-Field.i c.index-fields-i.result [] within) in
+    let here : c.as_slice.result.now ≡ word =
+    c.as_slice.ensures
+    ∙ (c.index-fields-i.is ∙ get_or_default fields c.in-Field.i c.index-fields-i.result [] within) in
     rw (c.in-Field.is, blasted-Field c.args.w fields c.in-Field.i, weight-Field c.args.w c.in-Field.i)
     (IfOk-weaker c.copied.result (λ r. r ≡ c.as_slice.result.now) _
     (λ r e. rw (e, here) (Gives-answer (c.requires.fields c.in-Field.i [] within)))
@@ -109,7 +130,8 @@ returns-after-loop-t-clause-ok t c =
     let all = take_all _ _ c.loop-t-test.false in
     let grows = rw (all, c.as_slice-t-items.ensures) at c.loop-t.invariant.grows in
     let follows = rw (append-nil, c.as_slice-t-items.ensures) at (c.loop-t.invariant.follows _ c.loop-t.circuit
-    (Follows-in_turn_end (blasted c.args.w c.args.fields.now) c.loop-t.t-index c.as_slice-t-items.result.now c.loop-t.circuit c.loop-t-test.false)) in
+    (Follows-in_turn_end (blasted c.args.w c.args.fields.now) c.loop-t.t-index c.as_slice-t-items.result.now
+    c.loop-t.circuit c.loop-t-test.false)) in
     rw (c.in-Node.is, blasted-Node c.args.w c.args.fields.now op args, weight-Node c.args.w op args)
     (IfOk-weaker c.apply.result _ _
     (λ r g. record {

@@ -12,7 +12,8 @@ decreases-word_of l = goal.size-word_of l
 
 abbrev pub invariant-loop-t : goal.invariant-loop-t
 invariant-loop-t l = record {
-  follows : (rest : List (List ℕ)) (end : Net) → Follows (in_turn (map (blasted l.w l.fields) (drop l.t-index l.t-items))) l.circuit rest end →
+  follows : (rest : List (List ℕ)) (end : Net) →
+      Follows (in_turn (map (blasted l.w l.fields) (drop l.t-index l.t-items))) l.circuit rest end →
       Follows (in_turn (map (blasted l.w l.fields) l.t-items)) l.initial.circuit (l.words ++ rest) end;
   count : length l.words ≡ l.t-index;
   words : All (IsWord l.w l.circuit.vars) l.words;

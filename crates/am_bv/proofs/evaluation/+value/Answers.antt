@@ -9,7 +9,8 @@ pub value-requires : goal.value-requires
 value-requires t c =
     let node = subst (λ x. IsTrue (fits c.args.w (length c.args.env.now) x)) c.in-Node.is c.requires.fits in
     let at : c.t-item.result ≡ get_or c.in-Node.args c.loop-t.t-index c.t-item.result = cc in
-    let child = fits_child _ _ c.in-Node.op c.in-Node.args node c.loop-t.t-index c.t-item.result (rw c.as_slice-t-items.ensures at c.loop-t-test.true) at in
+    let child = fits_child _ _ c.in-Node.op c.in-Node.args node c.loop-t.t-index c.t-item.result
+    (rw c.as_slice-t-items.ensures at c.loop-t-test.true) at in
     (search (rules, the_lemmas), (child, c.requires.words))
 
 pub push-requires : goal.push-requires

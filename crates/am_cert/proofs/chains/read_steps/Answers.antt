@@ -1,7 +1,7 @@
-use Rattle.std.proofs.Common.{◌≡◌, List, [], ◌∷◌, ◌++◌, Err, Ok, ap, sym, ◌∙◌, rules, subst}
+use Rattle.std.proofs.Common.{List, Err, ap, sym, ◌∙◌}
 use Rattle.std.proofs.lemmas.Result.{err_from_is_err_and}
 use Rattle.am_chain.specs.declared.chain.Step.{Step}
-use Rattle.am_syntax.specs.Pieces.{MovesOn, repeat, repeat_from}
+use Rattle.am_syntax.specs.Pieces.{MovesOn, repeat}
 use Rattle.am_syntax.specs.Readers.{Reader}
 use Rattle.am_syntax.proofs.Laws.{makes_refused, moves_on, so_far_done, so_far_fails, so_far_more}
 use Rattle.am_cert.specs.Grammar.{is_number_next, step}
@@ -36,5 +36,6 @@ steps-preserved c =
 
 pub returns : goal.returns
 returns c =
-    so_far_done is_number_next reads moves c.steps.steps c.steps.text _ (sym c.is_number_next.ensures ∙ c.steps-test.false)
+    so_far_done is_number_next reads moves c.steps.steps c.steps.text _
+    (sym c.is_number_next.ensures ∙ c.steps-test.false)
     c.steps.invariant

@@ -1,12 +1,11 @@
 use Rattle.std.proofs.Common.{Err, Ok, [], subst}
 use Rattle.std.proofs.lemmas.Result.{err_from_is_err_and}
-use Rattle.am_query.specs.Acceptance.{refuted}
 use Rattle.am_query.specs.Formulas.{circuit_of}
 use Rattle.am_query.specs.Turns.{after_trace}
 use Rattle.am_query.specs.declared.query.Query.TheVariants.{Fit}
 use Rattle.am_query.specs.declared.state.State.{State}
-use Rattle.am_cert.specs.Certificate.{folds}
-use Rattle.am_cert.specs.inside.Verdicts.{IsVerdictOf}
+use Rattle.am_cert.specs.Versions.{folds}
+use Rattle.am_cert.specs.inside.Verdicts.{IsVerdictOf, first_refuted}
 use Rattle.am_cert.proofs.Verdicts.{first_failed, first_passed, positives_here}
 use Rattle.am_cert.proofs.checking.absent.Goals as goal
 
@@ -28,6 +27,8 @@ returns c =
     let formula = λ (s : State). circuit_of (folds c.args.c.now.version) p (Fit s.positives []) in
     let positives = positives_here c.problem-p.result.now p c.problem-p.ensures c.in_ok-positives.field-0
     (after_trace c.args.trace.now) c.in_ok-positives.ensures (Ok tt) c.in_ok-positives_true.ensures in
-    let refutes = subst (λ (s : State). IsVerdictOf (refuted 0 (formula s).clauses log) r) c.in_ok-positives.ensures
-    c.fit_refuted.ensures in
+    let proofs = c.args.c.now.proofs in
+    let refutes =
+    subst (λ (s : State). IsVerdictOf (first_refuted proofs log (formula s).vars (formula s).clauses) r)
+    c.in_ok-positives.ensures c.fit_refuted.ensures in
     first_passed _ _ r positives refutes

@@ -1,13 +1,12 @@
 use Rattle.std.proofs.Common.{Err, Ok, subst}
 use Rattle.std.proofs.lemmas.Result.{err_from_is_err_and}
 use Rattle.am_problem.proofs.Laws.{derivable_terms_fit}
-use Rattle.am_query.specs.Acceptance.{refuted}
 use Rattle.am_query.specs.Formulas.{circuit_of}
 use Rattle.am_query.specs.Turns.{after_trace}
 use Rattle.am_query.specs.declared.query.Query.TheVariants.{Precise}
 use Rattle.am_query.specs.declared.state.State.{State}
-use Rattle.am_cert.specs.Certificate.{folds}
-use Rattle.am_cert.specs.inside.Verdicts.{IsVerdictOf}
+use Rattle.am_cert.specs.Versions.{folds}
+use Rattle.am_cert.specs.inside.Verdicts.{IsVerdictOf, second_refuted}
 use Rattle.am_cert.proofs.Verdicts.{behind_examples, behind_positives, first_failed, first_passed, negatives_here}
 use Rattle.am_cert.proofs.Verdicts.{positives_here, terms_here}
 use Rattle.am_cert.proofs.checking.best.Goals as goal
@@ -76,7 +75,9 @@ returns c =
     let r = c.closer_refuted.result in
     let log = c.args.best_log.now in
     let formula = λ (s : State). circuit_of (folds c.args.c.now.version) p (Precise t s.positives s.negatives) in
-    let closest = subst (λ (s : State). IsVerdictOf (refuted 1 (formula s).clauses log) r) after
+    let proofs = c.args.c.now.proofs in
+    let closest =
+    subst (λ (s : State). IsVerdictOf (second_refuted proofs log (formula s).vars (formula s).clauses) r) after
     c.closer_refuted.ensures in
     behind_examples c.problem-p.result.now p c.problem-p.ensures c.in_ok-state.state e after t _ r
     c.in_ok-terms_inside.ensures.verdict c.in_ok-positives_true.ensures c.in_ok-negatives_true.ensures

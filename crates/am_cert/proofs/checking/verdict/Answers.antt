@@ -1,9 +1,7 @@
 use Rattle.std.proofs.Common.{sym, ◌∙◌, subst}
-use Rattle.am_query.specs.Acceptance.{acceptance}
-use Rattle.am_query.specs.declared.outcome.Outcome.{Outcome}
-use Rattle.am_cert.specs.Certificate.{folds}
-use Rattle.am_cert.specs.inside.Verdicts.{IsVerdictOf}
+use Rattle.am_query.specs.declared.outcome.Outcome.TheVariants.{Absent, Best}
 use Rattle.am_cert.proofs.FittedOutcomes.{CanBeWritten, absent_stored, best_counted, best_stored}
+use Rattle.am_cert.proofs.Verdicts.{own_verdict}
 use Rattle.am_cert.proofs.checking.verdict.Goals as goal
 
 pub best-requires-clause-counted : goal.best-requires-clause-counted
@@ -29,12 +27,12 @@ absent-requires-clause-stored c =
 
 pub returns-in-Best : goal.returns-in-Best
 returns-in-Best c =
-    let d = c.args.c.now in
-    subst (λ (o : Outcome). IsVerdictOf (acceptance (folds d.version) d.problem o) c.best.result)
-    (sym (sym c.outcome.ensures ∙ c.in-Best.is)) c.best.ensures
+    let best = c.in-Best in
+    own_verdict c.args.c.now (Best best.term best.trace best.sound_log best.best_log)
+    (sym (sym c.outcome.ensures ∙ best.is)) c.best.result c.best.ensures
 
 pub returns-in-Absent : goal.returns-in-Absent
 returns-in-Absent c =
-    let d = c.args.c.now in
-    subst (λ (o : Outcome). IsVerdictOf (acceptance (folds d.version) d.problem o) c.absent.result)
-    (sym (sym c.outcome.ensures ∙ c.in-Absent.is)) c.absent.ensures
+    let absent = c.in-Absent in
+    own_verdict c.args.c.now (Absent absent.trace absent.log) (sym (sym c.outcome.ensures ∙ absent.is)) c.absent.result
+    c.absent.ensures

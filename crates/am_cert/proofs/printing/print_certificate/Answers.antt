@@ -5,8 +5,8 @@ use Rattle.am_cert.proofs.Fitting.{certificates_are_printable}
 use Rattle.am_cert.proofs.PrintedTexts.{certificate_parts}
 use Rattle.am_cert.proofs.printing.print_certificate.Goals as goal
 
-pub print_outcome-requires : goal.print_outcome-requires
-print_outcome-requires c =
+pub print_proved-requires : goal.print_proved-requires
+print_proved-requires c =
     subst IsPrintable (sym c.outcome.ensures) (certificates_are_printable c.args.c.now c.keeps_limits.ensures)
 
 pub returns-in_err-print_version : goal.returns-in_err-print_version

@@ -1,12 +1,10 @@
-use Rattle.std.proofs.Common.{◌<◌, ◌^◌, arith, length}
 use Rattle.am_problem.specs.StoredDraft.{seen_draft as seen_problem}
 use Rattle.am_problem.specs.Texts.{draft as problem_draft}
 use Rattle.am_problem.proofs.Laws.{draft_advances}
 use Rattle.am_syntax.proofs.Laws.{reached_ok}
-use Rattle.am_cert.specs.StoredDraft.{seen_draft}
-use Rattle.am_cert.specs.Texts.{answered, draft}
-use Rattle.am_cert.proofs.CertificateLaws.{answer_bounded, answer_follows, draft_shape, heading_law}
-use Rattle.am_cert.proofs.Shaping.{reached_length}
+use Rattle.am_cert.specs.Texts.{IsShort}
+use Rattle.am_cert.proofs.Bounds.{reached_short}
+use Rattle.am_cert.proofs.CertificateLaws.{answer_follows, draft_shape, heading_law}
 use Rattle.am_cert.proofs.Steps.{reached_behind}
 use Rattle.am_cert.proofs.reading.read_draft.Goals as goal
 
@@ -18,19 +16,15 @@ read_answer-requires c =
 pub invariant_of-result : goal.invariant_of-result
 invariant_of-result c =
     let d = seen_problem c.in_ok-problem.problem in
-    let o = c.in_ok-outcome.outcome in
+    let v = c.in_ok-version.version in
     let old = c.args.text.now in
     let one = c.read_version.new.text in
     let mid = c.take_problem.new.text in
-    let left = c.read_answer.new.text in
-    let few : length mid.tokens < 2 ^ 32 =
-    omega (
-      arith,
-      c.requires,
-      reached_length old one (reached_behind old one c.in_ok-version.version heading_law c.in_ok-version.ensures),
-      reached_length one mid (reached_ok problem_draft one mid d draft_advances c.in_ok-problem.ensures.read),
-    ) in
+    let short : IsShort mid =
+    reached_short one mid (reached_ok problem_draft one mid d draft_advances c.in_ok-problem.ensures.read)
+    (reached_short old one (reached_behind old one v heading_law c.in_ok-version.ensures) c.requires) in
     record {
-      follows = answer_follows one mid left d o c.in_ok-problem.ensures.read c.in_ok-outcome.ensures;
-      bounded = answer_bounded one mid left d o c.in_ok-problem.ensures.read c.in_ok-outcome.ensures few;
+      can =
+          answer_follows one mid c.read_answer.new.text v d c.in_ok-answer.answer c.in_ok-problem.ensures.read
+          c.in_ok-answer.ensures short;
     }

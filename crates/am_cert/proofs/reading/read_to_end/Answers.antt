@@ -1,12 +1,12 @@
-use Rattle.std.proofs.Common.{◌<◌, ◌≤◌, ◌^◌, [], ap, arith, length, subst, sym, ◌∙◌}
-use Rattle.am_text.specs.Tokens.{Left, bad_byte}
+use Rattle.std.proofs.Common.{[], ap, subst, sym, ◌∙◌}
+use Rattle.am_text.specs.Tokens.{bad_byte}
 use Rattle.am_syntax.specs.Pieces.{Piece}
 use Rattle.am_syntax.specs.Readers.{Makes}
 use Rattle.am_syntax.specs.Texts.{Answers, opened, text_value}
 use Rattle.am_syntax.proofs.Laws.{text_closed}
 use Rattle.am_cert.specs.StoredDraft.{seen_draft}
-use Rattle.am_cert.specs.Texts.{Draft, draft, drafted}
-use Rattle.am_cert.proofs.Bounds.{tokens_length}
+use Rattle.am_cert.specs.Texts.{Draft, IsShort, draft, drafted}
+use Rattle.am_cert.proofs.Bounds.{text_short}
 use Rattle.am_cert.proofs.reading.read_to_end.Goals as goal
 
 -- a draft as a piece, of which reading alone is used
@@ -15,8 +15,7 @@ drafts = record { spell = λ d. []; Good = λ d. Unit {0}; read = draft }
 
 pub take_certificate-read-requires : goal.take_certificate-read-requires
 take_certificate-read-requires c =
-    subst (λ (s : Left). length s.tokens < 2 ^ 32) (sym c.requires.whole)
-    (let few = tokens_length 0 c.args.text.now in omega (arith, few, c.requires.short))
+    subst IsShort (sym c.requires.whole) (text_short c.args.text.now c.requires.short)
 
 pub returns : goal.returns
 unfolding text_value drafts

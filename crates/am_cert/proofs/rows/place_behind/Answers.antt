@@ -1,4 +1,4 @@
-use Rattle.std.proofs.Common.{◌≡◌, ℕ, zero, suc, ◌+◌, ◌-◌, List, [], ◌∷◌, length, Some, arith, ap, sym, ◌∙◌}
+use Rattle.std.proofs.Common.{◌≡◌, ℕ, zero, suc, ◌+◌, ◌-◌, List, [], ◌∷◌, length, Some, arith, sym}
 use Rattle.std.specs.Prelude.{slice_get}
 use Rattle.am_cert.specs.Grammar.{place_behind}
 use Rattle.am_cert.proofs.rows.place_behind.Goals as goal
@@ -10,7 +10,7 @@ behind_at (i ∷ []) (suc k) n e h = absurd (omega arith)
 behind_at (i ∷ j ∷ places) zero n e h = absurd (omega arith)
 behind_at (i ∷ j ∷ places) (suc k) n e h = behind_at (j ∷ places) k n (omega arith) h
 
--- the place behind the last one
+-- the place after the last one
 behind_last : (seen : List ℕ) (n : ℕ) → slice_get seen (length seen - 1) ≡ Some n → place_behind seen ≡ n + 1
 behind_last [] n h = absurd cc
 behind_last (i ∷ places) n h = behind_at (i ∷ places) (length (i ∷ places) - 1) n (omega arith) h

@@ -1,4 +1,4 @@
-use Rattle.std.proofs.Common.{◌≡◌, ◌≤◌, ◌^◌, [], map, subst, sym, refl}
+use Rattle.std.proofs.Common.{◌≤◌, ◌^◌, [], map, subst, sym, refl}
 use Rattle.std.proofs.Math.Nat.{min-le_right}
 use Rattle.am_syntax.specs.Pieces.{below, repeat_from}
 use Rattle.am_syntax.specs.Readers.{Makes}
@@ -10,7 +10,8 @@ use Rattle.am_cert.proofs.rows.read_places.Goals as goal
 
 pub read_list-requires : goal.read_list-requires
 read_list-requires c =
-    let few : c.min.result ≤ 2 ^ 32 = subst (λ m. m ≤ 2 ^ 32) (sym c.min.ensures) (min-le_right c.args.count (2 ^ 32)) in
+    let few : c.min.result ≤ 2 ^ 32 =
+    subst (λ m. m ≤ 2 ^ 32) (sym c.min.ensures) (min-le_right c.args.count (2 ^ 32)) in
     λ k. (
       (refl, tt),
       (
@@ -23,4 +24,5 @@ pub returns : goal.returns
 returns c =
     makes_same c.read_list.result c.args.text.now c.read_list.new.text _
     (subst (λ m. Makes (map (λ n. n)) c.read_list.result c.args.text.now c.read_list.new.text
-    (repeat_from is_number_next (λ seen. (below (place_behind seen) m).read) [])) c.min.ensures c.read_list.ensures.read)
+    (repeat_from is_number_next (λ seen. (below (place_behind seen) m).read) [])) c.min.ensures
+    c.read_list.ensures.read)

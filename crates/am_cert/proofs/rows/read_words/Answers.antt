@@ -1,4 +1,4 @@
-use Rattle.std.proofs.Common.{◌≡◌, ℕ, List, [], ◌∷◌, ◌++◌, Err, ap, arith, length-append, ◌∙◌, rules}
+use Rattle.std.proofs.Common.{ℕ, List, [], ◌∷◌, Err, ap, arith, length-append, ◌∙◌}
 use Rattle.std.proofs.lemmas.Result.{err_from_is_err_and}
 use Rattle.am_syntax.specs.Readers.{Reader}
 use Rattle.am_syntax.proofs.Laws.{times_done, times_fails, times_more}

@@ -9,8 +9,12 @@ returns-in_err-take_step-clause-fault c =
     let e = c.in_err-take_step.field-0.0 in
     let was = c.loop-step.invariant.so_far in
     let steps = c.args.chain.now.steps in
-    let lt : c.loop-step.step-index < length steps = omega (arith, ap length c.as_slice-step-items.ensures, c.loop-step-test.true) in
-    let fault : IsFaultOf (clause_of clauses c.args.chain.now) e = step_faulty clauses steps c.as_slice-step-items.result.now c.loop-step.step-index c.loop-step.place (record { variable = 0; clause = 0 }) was.0 (clause_of clauses c.args.chain.now) c.as_slice-step-items.ensures c.loop-step.invariant.place lt was.2 e (c.in_err-take_step.ensures.fault was.0 was.1) in
+    let lt : c.loop-step.step-index < length steps =
+    omega (arith, ap length c.as_slice-step-items.ensures, c.loop-step-test.true) in
+    let fault : IsFaultOf (clause_of clauses c.args.chain.now) e =
+    step_faulty clauses steps c.as_slice-step-items.result.now c.loop-step.step-index c.loop-step.place
+    (record { variable = 0; clause = 0 }) was.0 (clause_of clauses c.args.chain.now) c.as_slice-step-items.ensures
+    c.loop-step.invariant.place lt was.2 e (c.in_err-take_step.ensures.fault was.0 was.1) in
     search rules
 
 pub loop-step-preserved : goal.loop-step-preserved
@@ -19,8 +23,15 @@ loop-step-preserved c =
     let was = c.loop-step.invariant.so_far in
     let next = c.in_ok-take_step.ensures.next was.0 was.1 in
     let steps = c.args.chain.now.steps in
-    let lt : c.loop-step.step-index < length steps = omega (arith, ap length c.as_slice-step-items.ensures, c.loop-step-test.true) in
+    let lt : c.loop-step.step-index < length steps =
+    omega (arith, ap length c.as_slice-step-items.ensures, c.loop-step-test.true) in
     record {
       place = ap (λ n. n + 1) c.loop-step.invariant.place;
-      so_far = (next.0, next.2, step_taken clauses steps c.as_slice-step-items.result.now c.loop-step.step-index c.loop-step.place (record { variable = 0; clause = 0 }) was.0 (clause_of clauses c.args.chain.now) c.as_slice-step-items.ensures c.loop-step.invariant.place lt was.2 next.0 next.1);
+      so_far = (
+        next.0,
+        next.2,
+        step_taken clauses steps c.as_slice-step-items.result.now c.loop-step.step-index c.loop-step.place
+            (record { variable = 0; clause = 0 }) was.0 (clause_of clauses c.args.chain.now)
+            c.as_slice-step-items.ensures c.loop-step.invariant.place lt was.2 next.0 next.1,
+      );
     }

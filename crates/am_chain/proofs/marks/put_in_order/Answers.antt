@@ -14,20 +14,31 @@ use Rattle.am_chain.proofs.marks.put_in_order.Goals as goal
 
 pub returns-clause-rises : goal.returns-clause-rises
 returns-clause-rises c =
-    let e : c.dedup.new.self.items ≡ dedup eqb c.sort_unstable.new.self.items = dedup_is eqb c.sort_unstable.new.self.items c.dedup.new.self.items c.dedup.ensures.filtered in
+    let e : c.dedup.new.self.items ≡ dedup eqb c.sort_unstable.new.self.items =
+    dedup_is eqb c.sort_unstable.new.self.items c.dedup.new.self.items c.dedup.ensures.filtered in
     rw e (IsStrictlyIncreasing-dedup c.sort_unstable.new.self.items c.sort_unstable.ensures.sorted)
 
 pub returns-clause-members : goal.returns-clause-members
 returns-clause-members c = λ l.
     let test = mark_at c.args.marks.now in
-    let kept : c.retain.new.self.items ≡ filter test c.args.touched.now.items = filter_same _ test _ (λ x b f' k. search rules) _ _ c.retain.ensures.filtered in
-    let e : c.dedup.new.self.items ≡ dedup eqb c.sort_unstable.new.self.items = dedup_is eqb c.sort_unstable.new.self.items c.dedup.new.self.items c.dedup.ensures.filtered in
-    let p : IsPermutation (filter test c.args.touched.now.items) c.sort_unstable.new.self.items = rw kept at c.sort_unstable.ensures.permutation in
+    let kept : c.retain.new.self.items ≡ filter test c.args.touched.now.items =
+    filter_same _ test _ (λ x b f' k. search rules) _ _ c.retain.ensures.filtered in
+    let e : c.dedup.new.self.items ≡ dedup eqb c.sort_unstable.new.self.items =
+    dedup_is eqb c.sort_unstable.new.self.items c.dedup.new.self.items c.dedup.ensures.filtered in
+    let p : IsPermutation (filter test c.args.touched.now.items) c.sort_unstable.new.self.items =
+    rw kept at c.sort_unstable.ensures.permutation in
     rw e (
       (λ h.
-          let there : Contains (filter test c.args.touched.now.items) l = Contains-permutation c.sort_unstable.new.self.items _ l (IsPermutation-sym _ c.sort_unstable.new.self.items p) (Contains-from_dedup eqb c.sort_unstable.new.self.items l h) in (
-            All-contains (Contains c.args.touched.now.items) _ l (All-filter test (Contains c.args.touched.now.items) c.args.touched.now.items (All-contains_itself c.args.touched.now.items)) there,
+          let there : Contains (filter test c.args.touched.now.items) l =
+          Contains-permutation c.sort_unstable.new.self.items _ l (IsPermutation-sym _ c.sort_unstable.new.self.items p)
+          (Contains-from_dedup eqb c.sort_unstable.new.self.items l h) in (
+            All-contains (Contains c.args.touched.now.items) _ l
+                (All-filter test (Contains c.args.touched.now.items) c.args.touched.now.items
+                (All-contains_itself c.args.touched.now.items))
+                there,
             All-contains (λ x. test x ≡ true) _ l (filter_passes test c.args.touched.now.items) there,
           )),
-      (λ h. Contains-dedup_nat c.sort_unstable.new.self.items l (Contains-permutation _ c.sort_unstable.new.self.items l p (Contains-filter test c.args.touched.now.items l h.0 h.1))),
+      (λ h. Contains-dedup_nat c.sort_unstable.new.self.items l
+          (Contains-permutation _ c.sort_unstable.new.self.items l p
+          (Contains-filter test c.args.touched.now.items l h.0 h.1))),
     )

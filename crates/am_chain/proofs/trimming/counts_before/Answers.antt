@@ -11,9 +11,15 @@ loop-is_needed-preserved c =
     let i = c.loop-is_needed.is_needed-index in
     let keeps = mark_at c.args.needed.now in
     record {
-      len = ap length c.in_ok-push.ensures.items ∙ length-append c.loop-is_needed.before.items (c.loop-is_needed.count ∷ []) ∙ ap (λ n. n + 1) inv.len;
-      count = ap (λ n. c.loop-is_needed.count + n) c.from-count.ensures ∙ count_more keeps i c.loop-is_needed.count inv.count;
-      counts = counts_more keeps i c.loop-is_needed.count c.loop-is_needed.before.items c.push.new.self.items inv.len c.in_ok-push.ensures.items inv.count inv.counts;
+      len =
+          ap length c.in_ok-push.ensures.items
+          ∙ length-append c.loop-is_needed.before.items (c.loop-is_needed.count ∷ []) ∙ ap (λ n. n + 1) inv.len;
+      count =
+          ap (λ n. c.loop-is_needed.count + n) c.from-count.ensures
+          ∙ count_more keeps i c.loop-is_needed.count inv.count;
+      counts =
+          counts_more keeps i c.loop-is_needed.count c.loop-is_needed.before.items c.push.new.self.items inv.len
+          c.in_ok-push.ensures.items inv.count inv.counts;
     }
 
 pub returns-clause-counts : goal.returns-clause-counts
@@ -24,5 +30,6 @@ overflow_add-count c =
     let inv = c.loop-is_needed.invariant in
     let i = c.loop-is_needed.is_needed-index in
     let keeps = mark_at c.args.needed.now in
-    let total : c.loop-is_needed.count + c.from-count.result ≡ kept_below keeps (i + 1) = ap (λ n. c.loop-is_needed.count + n) c.from-count.ensures ∙ count_more keeps i c.loop-is_needed.count inv.count in
+    let total : c.loop-is_needed.count + c.from-count.result ≡ kept_below keeps (i + 1) =
+    ap (λ n. c.loop-is_needed.count + n) c.from-count.ensures ∙ count_more keeps i c.loop-is_needed.count inv.count in
     omega (arith, total, kept_le keeps (i + 1), c.loop-is_needed-test.true, c.requires)

@@ -15,7 +15,13 @@ renumbered_chain-requires-clause-below c = λ k lt.
 
 pub renumbered_chain-requires-clause-names : goal.renumbered_chain-requires-clause-names
 renumbered_chain-requires-clause-names c = λ n h.
-    omega (arith, c.requires.names c.loop-k.k c.get.result.now c.get.ensures n h, c.loop-k-test.true, c.requires.needed_len, c.requires.before_len)
+    omega (
+      arith,
+      c.requires.names c.loop-k.k c.get.result.now c.get.ensures n h,
+      c.loop-k-test.true,
+      c.requires.needed_len,
+      c.requires.before_len,
+    )
 
 pub loop-k-preserved-then-not-needed-k : goal.loop-k-preserved-then-not-needed-k
 loop-k-preserved-then-not-needed-k c =
@@ -23,7 +29,8 @@ loop-k-preserved-then-not-needed-k c =
     let move = moved_number c.args.given keeps in
     let d : Chain = record { first = 0; steps = [] } in
     let lt : c.loop-k.k < length c.args.log.now = omega (arith, c.loop-k-test.true, c.requires.needed_len) in
-    kept_skip move keeps c.args.log.now c.loop-k.k d c.loop-k.kept (kept_chains move keeps 0 c.args.log.now) lt c.loop-k.invariant c.if-not-needed-k.true
+    kept_skip move keeps c.args.log.now c.loop-k.k d c.loop-k.kept (kept_chains move keeps 0 c.args.log.now) lt
+    c.loop-k.invariant c.if-not-needed-k.true
 
 pub loop-k-preserved : goal.loop-k-preserved
 loop-k-preserved c =
@@ -33,10 +40,14 @@ loop-k-preserved c =
     let i = c.loop-k.k in
     let chain = c.get.result.now in
     let lt : i < length log = omega (arith, c.loop-k-test.true, c.requires.needed_len) in
-    let counts = λ (k : ℕ) (low : k < length c.args.before.now). c.requires.counts k (omega (arith, low, c.requires.needed_len, c.requires.before_len)) in
-    let moved = same_moved c.args.given keeps c.args.before.now counts chain (λ n h. omega (arith, c.requires.names i chain c.get.ensures n h, lt, c.requires.before_len)) in
+    let counts = λ (k : ℕ) (low : k < length c.args.before.now). c.requires.counts k
+    (omega (arith, low, c.requires.needed_len, c.requires.before_len)) in
+    let moved = same_moved c.args.given keeps c.args.before.now counts chain
+    (λ n h. omega (arith, c.requires.names i chain c.get.ensures n h, lt, c.requires.before_len)) in
     let here : get_or log i chain ≡ chain = get_or_from_slice_get log i chain chain c.get.ensures in
-    kept_more move keeps log i chain c.loop-k.kept (kept_chains move keeps 0 log) lt c.loop-k.invariant c.in_ok-chain.chain c.push.new.self c.if-not-needed-k.false c.in_ok-push.ensures.ok (c.in_ok-chain.ensures ∙ moved ∙ ap (moved_chain move) (sym here))
+    kept_more move keeps log i chain c.loop-k.kept (kept_chains move keeps 0 log) lt c.loop-k.invariant
+    c.in_ok-chain.chain c.push.new.self c.if-not-needed-k.false c.in_ok-push.ensures.ok
+    (c.in_ok-chain.ensures ∙ moved ∙ ap (moved_chain move) (sym here))
 
 pub returns : goal.returns
 returns c =

@@ -15,7 +15,9 @@ loop-k-preserved c =
       last = λ i. (
         (λ t. elim ((push_mark marks b i).0 t) [
           | inl a ↦ let h = (inv.last i).0 a in (h.0, omega (arith, h.1))
-          | inr h ↦ let e : k + 1 ≡ c.args.len = eqb-true (k + 1) c.args.len h.1 in (omega (arith, h.0, inv.len, e), omega (arith, h.0, inv.len))
+          | inr h ↦
+              let e : k + 1 ≡ c.args.len = eqb-true (k + 1) c.args.len h.1 in
+              (omega (arith, h.0, inv.len, e), omega (arith, h.0, inv.len))
         ]),
         (λ h. (push_mark marks b i).1 (elim (same_or i k) [
           | inl e ↦ inr (omega (arith, e, inv.len), eq-eqb (k + 1) c.args.len (omega (arith, e, h.0)))
@@ -25,4 +27,5 @@ loop-k-preserved c =
     })
 
 pub returns-clause-last : goal.returns-clause-last
-returns-clause-last c = λ i. let h = c.loop-k.invariant.last i in ((λ t. (h.0 t).0), (λ e. h.1 (e, omega (arith, e, c.loop-k-test.false))))
+returns-clause-last c = λ i.
+    let h = c.loop-k.invariant.last i in ((λ t. (h.0 t).0), (λ e. h.1 (e, omega (arith, e, c.loop-k-test.false))))

@@ -5,4 +5,5 @@ use Rattle.am_chain.proofs.trimming.renumbered_chain.Given as goal
 
 abbrev pub invariant-loop-step : goal.invariant-loop-step
 invariant-loop-step l =
-    l.steps ++ map (moved_step (renumbered l.given l.before)) (drop l.step-index l.chain.steps) ≡ map (moved_step (renumbered l.given l.before)) l.chain.steps
+    l.steps ++ map (moved_step (renumbered l.given l.before)) (drop l.step-index l.chain.steps)
+    ≡ map (moved_step (renumbered l.given l.before)) l.chain.steps

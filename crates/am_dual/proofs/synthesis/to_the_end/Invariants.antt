@@ -1,4 +1,3 @@
-use Rattle.std.proofs.Common.{ℕ}
 use Rattle.am_dual.specs.inside.Underway.{GoesOn, IsRight, trace_so_far, turns_left}
 use Rattle.am_dual.proofs.synthesis.to_the_end.Given as goal
 

@@ -50,7 +50,8 @@ variables-preserved c =
     c.get.ensures ∙ ap (λ r. get_or r i []) c.variables.invariant ∙ get_or-over whole row i many [] below in
     let value : c.join-value.result ≡ get_or whole i [] =
     c.join-value.ensures
-    ∙ ap (λ k. (abstraction_of k).join c.width-w.result c.get.result.now c.get-in-variables.result.now) c.kind-kind.ensures
+    ∙ ap (λ k. (abstraction_of k).join c.width-w.result c.get.result.now c.get-in-variables.result.now)
+    c.kind-kind.ensures
     ∙ ap (λ w. (abstraction_of f.kind).join w c.get.result.now c.get-in-variables.result.now) c.width-w.ensures
     ∙ ap (λ a. (abstraction_of f.kind).join f.width a c.get-in-variables.result.now) same
     ∙ ap ((abstraction_of f.kind).join f.width (get_or row i [])) c.get-in-variables.ensures

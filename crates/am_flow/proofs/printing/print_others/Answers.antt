@@ -9,4 +9,5 @@ returns-in_err-print_further c =
     let i = c.fields.field-index in
     handed_on _ _ _ _ _ c.from_residual.ensures.1
     (grew_item (λ d. 44 ∷ decimal d) fields i (get_or fields i 0) _ c.fields.out _ c.fields-test.true
-    (get_or_default fields i 0 (get_or fields i 0) c.fields-test.true) c.fields.invariant c.in_err-print_further.ensures)
+    (get_or_default fields i 0 (get_or fields i 0) c.fields-test.true) c.fields.invariant
+    c.in_err-print_further.ensures)

@@ -11,7 +11,8 @@ joined-requires-clause-other c =
     let f = c.args.flow.now in
     let is = c.requires in
     subst (IsEntry f) (sym c.in-Some.ensures)
-    (edge_entry f (seen_operations c.args.operations.now) is.operations c.args.before.now is.before c.args.edge.now is.edge)
+    (edge_entry f (seen_operations c.args.operations.now) is.operations c.args.before.now is.before
+    c.args.edge.now is.edge)
 
 pub returns-in_ok-joined : goal.returns-in_ok-joined
 returns-in_ok-joined c =

@@ -1,5 +1,4 @@
-use Rattle.std.proofs.Common.{◌≡◌, ◌+◌, ◌++◌, ◌<◌, ◌≤◌, ap, arith, drop, get_or, length, length-set, set, subst, sym, take, take_at, ◌∙◌}
-use Rattle.std.proofs.lemmas.List.Elements.{All-get_or}
+use Rattle.std.proofs.Common.{◌≡◌, ◌+◌, ap, arith, drop, length, length-set, set, subst, sym, take, take_at, ◌∙◌}
 use Rattle.am_flow.specs.States.{State, edge_step, entry_at, joined}
 use Rattle.am_flow.specs.Stored.{seen_operations}
 use Rattle.am_flow.specs.inside.Rows.{IsState}
@@ -38,7 +37,8 @@ edges-preserved c =
     let new = c.join_step.new.after in
     let all : All (CanFollow f operations) edges =
     subst (All (CanFollow f operations)) (sym c.edges-edges.ensures) (all_follow f operations c.requires.operations) in
-    let can : CanFollow f operations e = subst (CanFollow f operations) (sym c.edge-item.is) (all i e c.edges-test.true) in
+    let can : CanFollow f operations e =
+    subst (CanFollow f operations) (sym c.edge-item.is) (all i e c.edges-test.true) in
     let step = edge_step f operations before e in
     let made : new ≡ set items e.to (joined f (entry_at items e.to) step) =
     c.in_ok-join_step.ensures

@@ -1,9 +1,8 @@
 use Rattle.std.proofs.Common.{◌≡◌, ◌<◌, [], None, Some, ap, arith, get_or, length, refl, subst, sym, ◌∙◌}
-use Rattle.std.specs.Prelude.{slice_get, slice_set}
+use Rattle.std.specs.Prelude.{slice_get}
 use Rattle.std.specs.Option.{option_map}
 use Rattle.std.proofs.lemmas.List.{length-map}
 use Rattle.std.proofs.lemmas.Option.{slice_get-map, slice_get_read}
-use Rattle.am_flow.specs.Flows.{Operation}
 use Rattle.am_flow.specs.States.{applied, at}
 use Rattle.am_flow.specs.Stored.{seen_operation, seen_operations}
 use Rattle.am_flow.specs.inside.Steps.{CanAct, CanApply}
@@ -45,7 +44,8 @@ returns-in_err-value-in-Apply c =
     let below : a.operation < length stored = omega (arith, act.named.0, length-map stored seen_operation) in
     let here = found stored a.operation o below c.index-operations-operation.is in
     c.from_residual.ensures
-    ∙ stepped_by f (seen_operations stored) c.args.action.now row a.operation a.to a.from (seen_operation o) None a.is here
+    ∙ stepped_by f (seen_operations stored) c.args.action.now row a.operation a.to a.from (seen_operation o) None
+    a.is here
     (c.in_err-value-in-Apply.ensures ∙ ap (λ bs. applied f (Some (seen_operation o)) (at [] row bs)) c.as_slice.ensures)
 
 pub returns-in_ok-value-in-Apply : goal.returns-in_ok-value-in-Apply

@@ -6,7 +6,9 @@ pub returns-then-variable : goal.returns-then-variable
 returns-then-variable c = (
   (λ e. absurd (cc e)),
   (λ rise.
-      absurd (no_rise_at c.args.literals.now (c.loop-i.i - 1) c.loop-i.i c.index-literals-i-in-loop-i.result c.index-literals-i.result
+      absurd
+      (no_rise_at c.args.literals.now (c.loop-i.i - 1) c.loop-i.i c.index-literals-i-in-loop-i.result
+      c.index-literals-i.result
       (omega (arith, c.loop-i.auto)) (omega arith) c.index-literals-i-in-loop-i.is c.index-literals-i.is
       (rw (c.variable.ensures, c.variable-in-loop-i.ensures) at c.if-variable.true) rise)),
 )

@@ -11,4 +11,6 @@ between-requires-clause-in_range c =
     (IsCut-at 0 c.args.ends.now (length c.args.all.now) c.args.i c.requires.cut c.requires.in_range).1
 
 pub returns : goal.returns
-returns c = rw (c.between.ensures, c.start.ensures) (sym (get_or-rows 0 c.args.ends.now c.args.all.now c.args.i c.requires.in_range))
+returns c =
+    rw (c.between.ensures, c.start.ensures)
+    (sym (get_or-rows 0 c.args.ends.now c.args.all.now c.args.i c.requires.in_range))

@@ -11,7 +11,8 @@ range-suc a (suc n) =
 
 pub push-requires : goal.push-requires
 push-requires c =
-    let few : length c.loop-j.fields.items < 3 = omega (arith, ap length c.loop-j.invariant, length-range_with_len 2 c.loop-j.j) in
+    let few : length c.loop-j.fields.items < 3 =
+    omega (arith, ap length c.loop-j.invariant, length-range_with_len 2 c.loop-j.j) in
     (lit< tt, few)
 
 pub loop-j-preserved : goal.loop-j-preserved

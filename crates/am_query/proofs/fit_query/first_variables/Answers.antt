@@ -12,4 +12,5 @@ range-more a (suc n) =
 pub loop-i-preserved : goal.loop-i-preserved
 loop-i-preserved c =
     let next : suc c.loop-i.i ≡ c.loop-i.i + 1 = omega arith in
-    c.in_ok-push.ensures.ok ∙ ap (λ (xs : List ℕ). xs ++ (1 + c.loop-i.i) ∷ []) c.loop-i.invariant ∙ range-more 1 c.loop-i.i ∙ ap (range_with_len 1) next
+    c.in_ok-push.ensures.ok ∙ ap (λ (xs : List ℕ). xs ++ (1 + c.loop-i.i) ∷ []) c.loop-i.invariant
+    ∙ range-more 1 c.loop-i.i ∙ ap (range_with_len 1) next

@@ -1,4 +1,4 @@
-use Rattle.std.proofs.Common.{◌≡◌, ◌≤◌, true, length, subst, arith}
+use Rattle.std.proofs.Common.{◌≡◌, true, subst, arith}
 use Rattle.am_lit.specs.Truth.{Satisfies, value_at}
 use Rattle.am_query.specs.inside.Solved.{IsSolved}
 use Rattle.am_query.specs.Formulas.{circuit_of}

@@ -1,4 +1,4 @@
-use Rattle.std.proofs.Common.{◌≡◌, ◌≤◌, true, length, arith}
+use Rattle.std.proofs.Common.{◌≡◌, true}
 use Rattle.am_lit.specs.Truth.{Satisfies, value_at}
 use Rattle.am_query.specs.Formulas.{circuit_of}
 use Rattle.am_query.specs.Witnesses.{chosen_terms}
@@ -14,8 +14,15 @@ terms_of-requires c =
     let answer = rw c.in-Found.is at c.in_ok-a.ensures.answer in
     let satisfied : Satisfies v (circuit_of true p (Precise c.args.t.now c.args.pos.now c.args.neg.now)).clauses =
     rw c.in_ok-stated.ensures.stated.clauses at answer.1 in
-    rw (c.grammar.ensures.rules, c.grammar.ensures.starts, c.grammar.ensures.depth, c.in_ok-trees-in-Found.ensures.trees, c.in_ok-stated.ensures.template)
-    (chosen_derive p c.keeps_limits.ensures.formed c.args.t.now c.args.pos.now c.args.neg.now c.requires.compared v satisfied)
+    rw (
+      c.grammar.ensures.rules,
+      c.grammar.ensures.starts,
+      c.grammar.ensures.depth,
+      c.in_ok-trees-in-Found.ensures.trees,
+      c.in_ok-stated.ensures.template,
+    )
+    (chosen_derive p c.keeps_limits.ensures.formed c.args.t.now c.args.pos.now c.args.neg.now c.requires.compared v
+    satisfied)
 
 pub returns-in-Found-clause-answer : goal.returns-in-Found-clause-answer
 returns-in-Found-clause-answer c =
@@ -24,10 +31,17 @@ returns-in-Found-clause-answer c =
     let answer = rw c.in-Found.is at c.in_ok-a.ensures.answer in
     let satisfied : Satisfies v (circuit_of true p (Precise c.args.t.now c.args.pos.now c.args.neg.now)).clauses =
     rw c.in_ok-stated.ensures.stated.clauses at answer.1 in
-    let closer = read_closer p c.keeps_limits.ensures.formed c.args.t.now c.args.pos.now c.args.neg.now c.requires.compared v satisfied _
-    c.in_ok-stated.inputs c.in_ok-stated.ensures.inputs c.negative_at-example.result c.negative_at-example.ensures.inputs c.negative_at-example.ensures.word in
+    let closer = read_closer p c.keeps_limits.ensures.formed c.args.t.now c.args.pos.now c.args.neg.now
+    c.requires.compared v satisfied _
+    c.in_ok-stated.inputs c.in_ok-stated.ensures.inputs c.negative_at-example.result
+    c.negative_at-example.ensures.inputs c.negative_at-example.ensures.word in
     let terms : c.in_ok-term-in-Found.term ≡ chosen_terms p v =
-    rw (c.grammar.ensures.rules, c.grammar.ensures.starts, c.in_ok-trees-in-Found.ensures.trees, c.in_ok-stated.ensures.template) at c.in_ok-term-in-Found.ensures in
+    rw (
+      c.grammar.ensures.rules,
+      c.grammar.ensures.starts,
+      c.in_ok-trees-in-Found.ensures.trees,
+      c.in_ok-stated.ensures.template,
+    ) at c.in_ok-term-in-Found.ensures in
     rw terms closer
 
 pub returns-in-Refuted-clause-answer : goal.returns-in-Refuted-clause-answer

@@ -17,7 +17,8 @@ returns-clause-stated c =
     (precise_stated p c.args.t.now c.args.pos.now c.args.neg.now follows closer.stated).circuit in
     let of = c.of.ensures in
     let selectors : length c.in_ok-base.base ≡ selectors_of (encoding_of p) =
-    ap length c.in_ok-base.ensures ∙ length-range_with_len 1 c.selectors.result ∙ c.selectors.ensures.value ∙ ap selectors_of fit.template in
+    ap length c.in_ok-base.ensures ∙ length-range_with_len 1 c.selectors.result ∙ c.selectors.ensures.value
+    ∙ ap selectors_of fit.template in
     record {
       clauses = of.clauses ∙ ap (λ (n : Net). n.clauses) made;
       vars = of.vars ∙ ap (λ (n : Net). n.vars) made;
@@ -35,5 +36,6 @@ returns-clause-inputs c =
     let fit = rw c.in_ok-statements.ensures at c.in_ok-template.ensures in
     let closer = rw c.in_ok-statements.ensures at c.in_ok-inputs.ensures in
     let follows = rw c.in_ok-circuit.ensures at fit.ok in
-    let made : c.fit.new.circuit.vars ≡ (circuit_of c.args.folding p (Fit c.args.pos.now c.args.neg.now)).vars = ap (λ (n : Net). n.vars) follows.circuit in
+    let made : c.fit.new.circuit.vars ≡ (circuit_of c.args.folding p (Fit c.args.pos.now c.args.neg.now)).vars =
+    ap (λ (n : Net). n.vars) follows.circuit in
     rw (← made, c.of.ensures.vars) closer.words

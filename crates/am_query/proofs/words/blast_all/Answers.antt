@@ -24,7 +24,11 @@ loop-term-preserved c =
           (AreWordsIn-snoc c.args.w i _ c.loop-term.words c.in_ok-word.word
           (AreWordsIn-later c.args.w i _ _ c.loop-term.words word.grows.not_less inv.words) word.word);
       grows = Grows-trans _ inv.grows word.grows
-          (omega (arith, sum_by_more (weight c.args.w) terms i c.term-item.result c.loop-term-test.true, ap (weight c.args.w) c.term-item.is));
+          (omega (
+            arith,
+            sum_by_more (weight c.args.w) terms i c.term-item.result c.loop-term-test.true,
+            ap (weight c.args.w) c.term-item.is,
+          ));
     }
 
 pub returns : goal.returns
@@ -35,7 +39,9 @@ returns c =
     let done : i ≡ length terms = omega (arith, c.loop-term-test.false, c.loop-term.auto.term-index-end) in
     record {
       follows = rw append-nil at
-          (inv.follows [] c.loop-term.circuit (Follows-in_turn_end (blasted c.args.w c.args.fields.now) i terms c.loop-term.circuit c.loop-term-test.false));
+          (inv.follows [] c.loop-term.circuit
+          (Follows-in_turn_end (blasted c.args.w c.args.fields.now) i terms c.loop-term.circuit
+          c.loop-term-test.false));
       given = subst (λ n. AreWordsIn c.args.w n c.loop-term.circuit.vars c.loop-term.words) done inv.words;
       grows = rw (take_all _ _ c.loop-term-test.false) at inv.grows;
     }

@@ -8,7 +8,8 @@ use Rattle.am_query.proofs.words.blast_all.Given as goal
 
 abbrev pub invariant-loop-term : goal.invariant-loop-term
 invariant-loop-term l = record {
-  follows : (rest : List (List ℕ)) (end : Net) → Follows (in_turn (map (blasted l.w l.fields) (drop l.term-index l.terms))) l.circuit rest end →
+  follows : (rest : List (List ℕ)) (end : Net) →
+      Follows (in_turn (map (blasted l.w l.fields) (drop l.term-index l.terms))) l.circuit rest end →
       Follows (in_turn (map (blasted l.w l.fields) l.terms)) l.initial.circuit (l.words ++ rest) end;
   words : AreWordsIn l.w l.term-index l.circuit.vars l.words;
   grows : Grows (sum_by (weight l.w) (take l.term-index l.terms)) l.initial.circuit l.circuit;

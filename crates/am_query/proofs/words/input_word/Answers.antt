@@ -1,4 +1,5 @@
-use Rattle.std.proofs.Common.{◌≡◌, suc, ◌+◌, ◌-◌, ◌<◌, [], ◌∷◌, ◌++◌, length, length-append, replicate, append_assoc, append-nil, ap, subst, ◌∙◌, arith}
+use Rattle.std.proofs.Common.{◌≡◌, suc, ◌+◌, ◌-◌, ◌<◌, [], ◌∷◌, ◌++◌, length, length-append, replicate, append_assoc}
+use Rattle.std.proofs.Common.{append-nil, ap, subst, ◌∙◌, arith}
 use Rattle.am_gate.specs.Circuit.{Event.Input}
 use Rattle.am_gate.specs.Build.{ask}
 use Rattle.am_gate.proofs.Laws.{Follows-input, Grows-trans, HasInputs-input}
@@ -25,7 +26,8 @@ loop-preserved c =
           (inv.follows (c.in_ok-l.l ∷ rest) end
           (rw step (Follows-turn (replicate (c.args.w - (i + 1)) (ask Input)) c.in_ok-l.ensures.ok h)));
       word = rw c.in_ok-push-2.ensures.ok
-          (IsWord-snoc i _ c.loop.word c.in_ok-l.l (IsWord-later i _ _ c.loop.word c.in_ok-l.ensures.grows.not_less inv.word) c.in_ok-l.ensures.inside);
+          (IsWord-snoc i _ c.loop.word c.in_ok-l.l
+          (IsWord-later i _ _ c.loop.word c.in_ok-l.ensures.grows.not_less inv.word) c.in_ok-l.ensures.inside);
       grows = Grows-trans _ inv.grows c.in_ok-l.ensures.grows (omega arith);
       inputs = rw pushed (HasInputs-input inv.inputs c.in_ok-l.ensures.ok);
       count = ap length pushed ∙ length-append c.loop.base (c.loop.circuit.vars ∷ []) ∙ omega (arith, inv.count);

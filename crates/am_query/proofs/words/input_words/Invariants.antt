@@ -9,7 +9,8 @@ use Rattle.am_query.proofs.words.input_words.Given as goal
 abbrev pub invariant-loop : goal.invariant-loop
 invariant-loop l = record {
   place : l.counter ≤ l.count;
-  follows : (rest : List (List ℕ)) (end : Net) → Follows (in_turn (replicate (l.count - l.counter) (input_word l.w))) l.circuit rest end →
+  follows : (rest : List (List ℕ)) (end : Net) →
+      Follows (in_turn (replicate (l.count - l.counter) (input_word l.w))) l.circuit rest end →
       Follows (in_turn (replicate l.count (input_word l.w))) l.initial.circuit (l.words ++ rest) end;
   words : AreWordsIn l.w l.counter l.circuit.vars l.words;
   grows : Grows (l.counter * l.w) l.initial.circuit l.circuit;

@@ -12,8 +12,11 @@ returns-in-Some c =
     let first : i - 0 ≡ i = omega arith in
     let item = rw first at stands.item in
     IfOk-weaker c.copied.result _ _
-    (λ r e. e ∙ c.as_slice.ensures ∙ c.index-words-i.is ∙ get_or_default ws i _ [] (omega (arith, c.in-Some.ensures.inside, c.requires)) ∙ sym item)
+    (λ r e. e ∙ c.as_slice.ensures ∙ c.index-words-i.is
+    ∙ get_or_default ws i _ [] (omega (arith, c.in-Some.ensures.inside, c.requires)) ∙ sym item)
     c.copied.ensures
 
 pub returns-in-None : goal.returns-in-None
-returns-in-None c = c.new.ensures ∙ sym (no-place [] c.args.argument 0 c.args.children.now c.args.words.now (sym c.in-None.ensures.value))
+returns-in-None c =
+    c.new.ensures
+    ∙ sym (no-place [] c.args.argument 0 c.args.children.now c.args.words.now (sym c.in-None.ensures.value))

@@ -6,7 +6,9 @@ use Rattle.am_slot.proofs.Listing.{symbol-in, selectors-range, level-from, symbo
 use Rattle.am_slot.proofs.clauses.push_level.Goals as goal
 
 pub width-width-requires : goal.width-width-requires
-width-width-requires c = symbol-in (λ n. n < length c.args.rules.now) c.args.level.now c.loop-slot.slot-index c.slot-item.result c.loop-slot-test.true c.slot-item.is c.requires.symbols
+width-width-requires c =
+    symbol-in (λ n. n < length c.args.rules.now) c.args.level.now c.loop-slot.slot-index c.slot-item.result
+    c.loop-slot-test.true c.slot-item.is c.requires.symbols
 
 pub push_slot-requires : goal.push_slot-requires
 push_slot-requires c =
@@ -25,7 +27,8 @@ push_slot-requires c =
       length-append c.loop-slot.clauses (level_clauses rules below x (drop i c.args.level.now)),
       length-append c.args.clauses.now (level_clauses rules below c.args.x c.args.level.now),
       ap (λ (cs : List (List ℕ)). length cs) step,
-      length-append (slot_clauses s.by (selectors x ps)) (level_clauses rules below (x + width rules below s.symbol) (drop (i + 1) c.args.level.now)),
+      length-append (slot_clauses s.by (selectors x ps))
+          (level_clauses rules below (x + width rules below s.symbol) (drop (i + 1) c.args.level.now)),
       c.requires.room,
     ))
 
@@ -42,5 +45,11 @@ loop-slot-preserved c =
     let step = level-from rules below i c.args.level.now s c.loop-slot-test.true c.slot-item.is x in
     record {
       follows = rw (c.in_ok-push_slot.ensures, own, size, append_assoc, ← step) c.loop-slot.invariant.follows;
-      selectors = omega (arith, size, symbols-from rules below i c.args.level.now s c.loop-slot-test.true c.slot-item.is, c.loop-slot.invariant.selectors);
+      selectors =
+          omega (
+            arith,
+            size,
+            symbols-from rules below i c.args.level.now s c.loop-slot-test.true c.slot-item.is,
+            c.loop-slot.invariant.selectors,
+          );
     }

@@ -14,8 +14,13 @@ returns-in-Some c =
     let first : i - 0 ≡ i = omega arith in
     let item = rw first at stands.item in
     IfOk-weaker c.copy.result _ _
-    (λ r e. e ∙ c.index-trees-i.is ∙ get_or_default ts i _ other (omega (arith, c.in-Some.ensures.inside, c.requires)) ∙ sym item)
+    (λ r e. e ∙ c.index-trees-i.is ∙ get_or_default ts i _ other (omega (arith, c.in-Some.ensures.inside, c.requires))
+    ∙ sym item)
     c.copy.ensures
 
 pub returns-in-None : goal.returns-in-None
-returns-in-None c = rw c.new.ensures (sym (no-place (tree c.args.missing []) c.args.argument 0 c.args.children.now c.args.trees.now (sym c.in-None.ensures.value)))
+returns-in-None c =
+    rw c.new.ensures
+    (sym
+    (no-place (tree c.args.missing []) c.args.argument 0 c.args.children.now c.args.trees.now
+    (sym c.in-None.ensures.value)))

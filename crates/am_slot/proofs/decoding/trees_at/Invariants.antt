@@ -5,5 +5,6 @@ use Rattle.am_slot.proofs.decoding.trees_at.Given as goal
 
 abbrev pub invariant-loop-position : goal.invariant-loop-position
 invariant-loop-position l =
-    l.parts ++ map (at_argument (tree l.missing []) l.children l.trees) (positioned l.position (drop l.position l.name-items))
+    l.parts
+    ++ map (at_argument (tree l.missing []) l.children l.trees) (positioned l.position (drop l.position l.name-items))
     ≡ map (at_argument (tree l.missing []) l.children l.trees) (positioned 0 l.name-items)

@@ -6,7 +6,8 @@ use Rattle.am_slot.proofs.stating.make_inputs.Goals as goal
 pub loop-preserved : goal.loop-preserved
 loop-preserved c =
     let inv = c.loop.invariant in
-    let step : c.args.count - c.loop.counter ≡ suc (c.args.count - (c.loop.counter + 1)) = omega (arith, c.loop-test.true) in
+    let step : c.args.count - c.loop.counter ≡ suc (c.args.count - (c.loop.counter + 1)) =
+    omega (arith, c.loop-test.true) in
     record {
       place = omega (arith, c.loop-test.true);
       follows = λ end h. inv.follows end (rw step (Follows-one_input _ _ _ _ _ c.in_ok-input.ensures.ok h));

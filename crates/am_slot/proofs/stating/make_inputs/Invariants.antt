@@ -7,7 +7,8 @@ use Rattle.am_slot.proofs.stating.make_inputs.Given as goal
 abbrev pub invariant-loop : goal.invariant-loop
 invariant-loop l = record {
   place : l.counter ≤ l.count;
-  follows : (end : Net) → Follows (inputs (l.count - l.counter)) l.circuit tt end → Follows (inputs l.count) l.initial.circuit tt end;
+  follows : (end : Net) → Follows (inputs (l.count - l.counter)) l.circuit tt end
+      → Follows (inputs l.count) l.initial.circuit tt end;
   vars : l.circuit.vars ≡ l.initial.circuit.vars + l.counter;
   grows : Grows l.counter l.initial.circuit l.circuit;
   begins : Begins l.initial.circuit l.circuit;

@@ -12,7 +12,8 @@ loop-i-preserved c =
     let here : i < length cs = omega (arith, c.loop-i-test.true, c.len-i-end.ensures) in
     let stated = rw c.clause.ensures at c.in_ok-clause.ensures.ok in
     record {
-      follows = λ end h. inv.follows end (rw (drop-cons cs i [] here) (Follows-clause _ _ _ _ _ stated (rw add-one at h)));
+      follows = λ end h.
+          inv.follows end (rw (drop-cons cs i [] here) (Follows-clause _ _ _ _ _ stated (rw add-one at h)));
       grows = Grows-trans _ inv.grows c.in_ok-clause.ensures.grows (omega arith);
       begins = Begins-trans inv.begins c.in_ok-clause.ensures.begins;
     }

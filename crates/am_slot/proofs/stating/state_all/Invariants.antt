@@ -6,7 +6,8 @@ use Rattle.am_slot.proofs.stating.state_all.Given as goal
 
 abbrev pub invariant-loop-i : goal.invariant-loop-i
 invariant-loop-i l = record {
-  follows : (end : Net) → Follows (told (drop l.i l.clauses)) l.circuit tt end → Follows (told l.clauses) l.initial.circuit tt end;
+  follows : (end : Net) → Follows (told (drop l.i l.clauses)) l.circuit tt end
+      → Follows (told l.clauses) l.initial.circuit tt end;
   grows : Grows l.i l.initial.circuit l.circuit;
   begins : Begins l.initial.circuit l.circuit;
 }

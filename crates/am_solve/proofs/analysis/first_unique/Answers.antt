@@ -1,4 +1,4 @@
-use Rattle.std.proofs.Common.{arith, ◌≡◌, ◌∙◌, ◌++◌, [], sym, get_or, length}
+use Rattle.std.proofs.Common.{arith, ◌≡◌, ◌<◌, ◌∙◌, ◌++◌, [], sym, get_or, length}
 use Rattle.std.specs.Prelude.{None}
 use Rattle.std.specs.List.Sorted.{IsStrictlyIncreasing}
 use Rattle.std.proofs.lemmas.List.{length-map}
@@ -13,7 +13,10 @@ use Rattle.am_solve.proofs.analysis.first_unique.Goals as goal
 
 pub mark_all-requires-clause-untrue : goal.mark_all-requires-clause-untrue
 mark_all-requires-clause-untrue c =
-    rw c.clause_at.ensures (untrue_besides (literals c.args.trail.now.entries) (get_or (c.args.given.now ++ c.args.learnt.now) c.args.conflict []) c.absent_literal-absent.result c.requires.untrue)
+    rw c.clause_at.ensures
+    (untrue_besides (literals c.args.trail.now.entries)
+    (get_or (c.args.given.now ++ c.args.learnt.now) c.args.conflict []) c.absent_literal-absent.result
+    c.requires.conflict.untrue)
 
 pub mark_all-requires-clause-counted : goal.mark_all-requires-clause-counted
 mark_all-requires-clause-counted c = c.in_ok-marks.ensures.counted (literals c.args.trail.now.entries)
@@ -25,10 +28,13 @@ last_marked-place-requires-clause-some c =
     let clauses = c.args.given.now ++ c.args.learnt.now in
     let more = rw c.clause_at.ensures at c.in_ok-mark_all.ensures.more in
     let start : c.mark_all.new.marks.start ≡ c.args.start = c.mark_all.ensures.start ∙ c.in_ok-marks.ensures.start in
-    first_counted clauses row c.in_ok-marks.marks.places.items c.mark_all.new.marks.places.items c.args.conflict c.absent_literal-absent.result more c.in_ok-marks.ensures.none
-    (c.absent_literal-absent.ensures (get_or clauses c.args.conflict []) c.requires.untrue)
-    c.mark_all.new.marks.start c.mark_all.new.marks.kept.items c.mark_all.new.marks.count c.requires.reaches.0 (apart_of t c.known.ensures) c.in_ok-mark_all.ensures.counted
-    (omega (arith, start, c.requires.reaches.1)) (omega (arith, c.requires.reaches.2, length-map t.entries (λ e. e.literal))) c.requires.reaches.3
+    first_counted clauses row c.in_ok-marks.marks.places.items c.mark_all.new.marks.places.items c.args.conflict
+    c.absent_literal-absent.result more c.in_ok-marks.ensures.none
+    (c.absent_literal-absent.ensures (get_or clauses c.args.conflict []) c.requires.conflict.untrue)
+    c.mark_all.new.marks.start c.mark_all.new.marks.kept.items c.mark_all.new.marks.count c.requires.leads.reaches.0
+    (apart_of t c.known.ensures) c.in_ok-mark_all.ensures.counted
+    (omega (arith, start, c.requires.leads.reaches.1))
+    (omega (arith, c.requires.leads.reaches.2, length-map t.entries (λ e. e.literal))) c.requires.leads.reaches.3
 
 pub loop-marks-init : goal.loop-marks-init
 loop-marks-init c =
@@ -37,47 +43,78 @@ loop-marks-init c =
     let clauses = c.args.given.now ++ c.args.learnt.now in
     let more = rw c.clause_at.ensures at c.in_ok-mark_all.ensures.more in
     let start : c.mark_all.new.marks.start ≡ c.args.start = c.mark_all.ensures.start ∙ c.in_ok-marks.ensures.start in
-    let len : length c.mark_all.new.marks.places.items ≡ length t.entries = more.count ∙ c.in_ok-marks.ensures.len ∙ c.len.ensures in
-    let absent = c.absent_literal-absent.ensures (get_or clauses c.args.conflict []) c.requires.untrue in
-    let first = derived_first clauses row c.in_ok-marks.marks.places.items c.mark_all.new.marks.places.items c.args.conflict c.absent_literal-absent.result more c.in_ok-marks.ensures.none absent
-    (All-get_or IsStrictlyIncreasing clauses c.args.conflict [] c.requires.number c.requires.rise) (len ∙ sym (length-map t.entries (λ e. e.literal))) in
+    let len : length c.mark_all.new.marks.places.items ≡ length t.entries =
+    more.count ∙ c.in_ok-marks.ensures.len ∙ c.len.ensures in
+    let absent = c.absent_literal-absent.ensures (get_or clauses c.args.conflict []) c.requires.conflict.untrue in
+    let first =
+    derived_first clauses row c.in_ok-marks.marks.places.items c.mark_all.new.marks.places.items c.args.conflict
+    c.absent_literal-absent.result more c.in_ok-marks.ensures.none absent
+    (All-get_or IsStrictlyIncreasing clauses c.args.conflict [] c.requires.conflict.number c.requires.conflict.rise)
+    (len ∙ sym (length-map t.entries (λ e. e.literal))) in
     record {
       start = start;
       len = len;
-      some = first_counted clauses row c.in_ok-marks.marks.places.items c.mark_all.new.marks.places.items c.args.conflict c.absent_literal-absent.result more c.in_ok-marks.ensures.none absent
-          c.mark_all.new.marks.start c.mark_all.new.marks.kept.items c.mark_all.new.marks.count c.requires.reaches.0 (apart_of t c.known.ensures) c.in_ok-mark_all.ensures.counted
-          (omega (arith, start, c.requires.reaches.1)) (omega (arith, c.requires.reaches.2, length-map t.entries (λ e. e.literal))) c.requires.reaches.3;
+      some =
+          first_counted clauses row c.in_ok-marks.marks.places.items c.mark_all.new.marks.places.items c.args.conflict
+          c.absent_literal-absent.result more c.in_ok-marks.ensures.none absent
+          c.mark_all.new.marks.start c.mark_all.new.marks.kept.items c.mark_all.new.marks.count
+          c.requires.leads.reaches.0
+          (apart_of t c.known.ensures) c.in_ok-mark_all.ensures.counted
+          (omega (arith, start, c.requires.leads.reaches.1))
+          (omega (arith, c.requires.leads.reaches.2, length-map t.entries (λ e. e.literal))) c.requires.leads.reaches.3;
       high = omega (arith, start, c.last_marked-place.ensures.start);
       here = c.last_marked-place.ensures.marked;
       counted = c.in_ok-mark_all.ensures.counted;
-      derived = rw c.new-steps.ensures (derived_down clauses row c.mark_all.new.marks.places.items c.args.conflict [] (length row) c.last_marked-place.result first
-          (omega (arith, c.last_marked-place.ensures.before, c.len-2.ensures, length-map t.entries (λ e. e.literal))) c.last_marked-place.ensures.above);
+      derived =
+          rw c.new-steps.ensures
+          (derived_down clauses row c.mark_all.new.marks.places.items c.args.conflict [] (length row)
+          c.last_marked-place.result first
+          (omega (
+            arith,
+            c.last_marked-place.ensures.before,
+            c.len-2.ensures,
+            length-map t.entries (λ e. e.literal),
+          ))
+          c.last_marked-place.ensures.above);
     }
 
 pub reason_at-reason-requires-clause-implied : goal.reason_at-reason-requires-clause-implied
 reason_at-reason-requires-clause-implied c = λ d.
     let t = c.args.trail.now in
     let i = c.loop-marks.invariant in
-    let low = start_before (literals t.entries) c.loop-marks.marks.start c.loop-marks.marks.places.items c.loop-marks.marks.kept.items c.loop-marks.marks.count c.loop-marks.place i.counted (omega arith) (omega (arith, i.high, i.start)) i.here (λ k lt. i.derived.above k (omega arith)) in
-    c.requires.implied c.loop-marks.place d (omega (arith, low, i.start)) (omega (arith, marked_in c.loop-marks.marks.places.items c.loop-marks.place i.here, i.len))
+    let low =
+    start_before (literals t.entries) c.loop-marks.marks.start c.loop-marks.marks.places.items
+    c.loop-marks.marks.kept.items c.loop-marks.marks.count c.loop-marks.place i.counted (omega arith)
+    (omega (arith, i.high, i.start)) i.here (λ k lt. i.derived.above k (omega arith)) in
+    c.requires.leads.implied c.loop-marks.place d (omega (arith, low, i.start))
+    (omega (arith, marked_in c.loop-marks.marks.places.items c.loop-marks.place i.here, i.len))
 
-pub resolve_at-requires-clause-number : goal.resolve_at-requires-clause-number
-resolve_at-requires-clause-number c =
+pub resolve_at-requires : goal.resolve_at-requires
+resolve_at-requires c =
     let i = c.loop-marks.invariant in
+    let clauses = c.args.given.now ++ c.args.learnt.now in
     let d : Entry = record { literal = 0; level = 0; reason = None } in
-    (reason_facts (c.args.given.now ++ c.args.learnt.now) c.args.trail.now c.loop-marks.place c.reason_at-reason.result d c.requires.explained
-    (omega (arith, marked_in c.loop-marks.marks.places.items c.loop-marks.place i.here, i.len)) (c.reason_at-reason.ensures d)).0
-
-pub resolve_at-requires-clause-forced : goal.resolve_at-requires-clause-forced
-resolve_at-requires-clause-forced c =
-    let i = c.loop-marks.invariant in
-    let d : Entry = record { literal = 0; level = 0; reason = None } in
-    (reason_facts (c.args.given.now ++ c.args.learnt.now) c.args.trail.now c.loop-marks.place c.reason_at-reason.result d c.requires.explained
-    (omega (arith, marked_in c.loop-marks.marks.places.items c.loop-marks.place i.here, i.len)) (c.reason_at-reason.ensures d)).1
+    let inside : c.loop-marks.place < length c.args.trail.now.entries =
+    omega (arith, marked_in c.loop-marks.marks.places.items c.loop-marks.place i.here, i.len) in
+    let facts =
+    reason_facts clauses c.args.trail.now c.loop-marks.place c.reason_at-reason.result d c.requires.conflict.explained
+    inside (c.reason_at-reason.ensures d) in
+    record {
+      can = record {
+        number = facts.0;
+        forced = facts.1;
+        rises = All-get_or IsStrictlyIncreasing clauses c.reason_at-reason.result [] facts.0 c.requires.conflict.rise;
+        inside = inside;
+        marked = i.here;
+        high = omega (arith, i.high, i.start);
+      };
+      fits = record { len = i.len; counted = i.counted };
+    }
 
 pub last_marked-place-requires-in-loop-marks-clause-above :
     goal.last_marked-place-requires-in-loop-marks-clause-above
-last_marked-place-requires-in-loop-marks-clause-above c = (c.in_ok-resolve_at.ensures.derived c.args.conflict c.loop-marks.invariant.derived).above
+last_marked-place-requires-in-loop-marks-clause-above c =
+    (c.in_ok-resolve_at.ensures.resolved.derived c.args.conflict c.loop-marks.invariant.derived).above
 
 pub loop-marks-preserved : goal.loop-marks-preserved
 loop-marks-preserved c =
@@ -85,13 +122,16 @@ loop-marks-preserved c =
     let next = c.last_marked-place-in-loop-marks.ensures in
     record {
       start = c.resolve_at.ensures.start ∙ i.start;
-      len = c.in_ok-resolve_at.ensures.len;
-      some = omega (arith, c.in_ok-resolve_at.ensures.count);
+      len = c.in_ok-resolve_at.ensures.resolved.fits.len;
+      some = omega (arith, c.in_ok-resolve_at.ensures.resolved.count);
       high = omega (arith, next.start, c.resolve_at.ensures.start, i.start);
       here = next.marked;
-      counted = c.in_ok-resolve_at.ensures.counted;
-      derived = derived_down (c.args.given.now ++ c.args.learnt.now) (literals c.args.trail.now.entries) c.resolve_at.new.marks.places.items c.args.conflict c.resolve_at.new.steps c.loop-marks.place c.last_marked-place-in-loop-marks.result
-          (c.in_ok-resolve_at.ensures.derived c.args.conflict i.derived) next.before next.above;
+      counted = c.in_ok-resolve_at.ensures.resolved.fits.counted;
+      derived =
+          derived_down (c.args.given.now ++ c.args.learnt.now) (literals c.args.trail.now.entries)
+          c.resolve_at.new.marks.places.items c.args.conflict c.resolve_at.new.steps c.loop-marks.place
+          c.last_marked-place-in-loop-marks.result
+          (c.in_ok-resolve_at.ensures.resolved.derived c.args.conflict i.derived) next.before next.above;
     }
 
 pub returns : goal.returns
@@ -100,6 +140,8 @@ returns c =
     let row = literals c.args.trail.now.entries in
     let one : c.loop-marks.marks.count ≡ 1 = omega (arith, i.some, c.loop-marks-test.false) in (
       c.loop-marks.marks.places.items,
-      unique_of (c.args.given.now ++ c.args.learnt.now) row c.args.start c.args.conflict c.loop-marks.marks.places.items c.loop-marks.marks.kept.items c.loop-marks.steps c.loop-marks.place
-          i.high i.here (i.len ∙ sym (length-map c.args.trail.now.entries (λ e. e.literal))) (rw (i.start, one) at i.counted) i.derived,
+      unique_of (c.args.given.now ++ c.args.learnt.now) row c.args.start c.args.conflict c.loop-marks.marks.places.items
+          c.loop-marks.marks.kept.items c.loop-marks.steps c.loop-marks.place
+          i.high i.here (i.len ∙ sym (length-map c.args.trail.now.entries (λ e. e.literal)))
+          (rw (i.start, one) at i.counted) i.derived,
     )

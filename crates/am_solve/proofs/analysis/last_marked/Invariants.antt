@@ -1,5 +1,5 @@
 use Rattle.std.proofs.Common.{◌≡◌, ◌≤◌, ◌<◌, ℕ, false}
-use Rattle.am_solve.specs.inside.Marking.{mark_at}
+use Rattle.am_chain.specs.inside.Marks.{mark_at}
 use Rattle.am_solve.proofs.analysis.last_marked.Given as goal
 
 abbrev pub invariant-loop-i : goal.invariant-loop-i

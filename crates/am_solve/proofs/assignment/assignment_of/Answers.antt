@@ -11,7 +11,9 @@ loop-variable-preserved c =
     let row = literals c.args.trail.now.entries in
     rw c.in_ok-push.ensures.ok (record {
       long = omega (arith, i.long, length-append c.loop-variable.values (c.value_of.result ∷ []));
-      values = values_more row c.loop-variable.values c.loop-variable.variable c.value_of.result i.long (λ v lt. i.values v (omega (arith, i.long))) c.value_of.ensures;
+      values =
+          values_more row c.loop-variable.values c.loop-variable.variable c.value_of.result i.long
+          (λ v lt. i.values v (omega (arith, i.long))) c.value_of.ensures;
     })
 
 pub returns-clause-len : goal.returns-clause-len
@@ -22,4 +24,6 @@ returns-clause-holds c =
     let t = c.args.trail.now in
     let i = c.loop-variable.invariant in
     let long : length c.loop-variable.values ≡ t.vars = omega (arith, i.long) in
-    all_hold (literals t.entries) c.loop-variable.values (consistent t c.known.ensures) (λ v lt. i.values v (omega (arith, i.long))) (λ l there. let low = variable_below t c.known.ensures l there in omega arith)
+    all_hold (literals t.entries) c.loop-variable.values (consistent t c.known.ensures)
+    (λ v lt. i.values v (omega (arith, i.long)))
+    (λ l there. let low = variable_below t c.known.ensures l there in omega arith)

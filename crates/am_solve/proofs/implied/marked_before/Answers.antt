@@ -15,7 +15,10 @@ loop-i-preserved c =
       | then-index+in_ok-push w ↦
           rw (w.kept-is, w.in_ok-push.ensures.items)
           (kept_more row marks c.loop-i.kept.items c.loop-i.i c.loop-i.invariant w.opposite.result
-          (mark_read marks c.loop-i.i c.index.result.now inside c.index.ensures ∙ w.if-index.true) (w.opposite.ensures ∙ ap opposite_of w.literal.ensures))
+          (mark_read marks c.loop-i.i c.index.result.now inside c.index.ensures ∙ w.if-index.true)
+          (w.opposite.ensures ∙ ap opposite_of w.literal.ensures))
       | else-index w ↦
-          rw w.kept-is (kept_over row marks c.loop-i.kept.items c.loop-i.i c.loop-i.invariant (mark_read marks c.loop-i.i c.index.result.now inside c.index.ensures ∙ w.if-index.false))
+          rw w.kept-is
+          (kept_over row marks c.loop-i.kept.items c.loop-i.i c.loop-i.invariant
+          (mark_read marks c.loop-i.i c.index.result.now inside c.index.ensures ∙ w.if-index.false))
     ]

@@ -10,7 +10,10 @@ use Rattle.am_solve.proofs.implied.resolve_all.Goals as goal
 
 pub mark_all-requires-clause-untrue : goal.mark_all-requires-clause-untrue
 mark_all-requires-clause-untrue c =
-    rw c.clause_at.ensures (untrue_besides (literals c.args.trail.now.entries) (get_or (c.args.given.now ++ c.args.learnt.now) c.args.conflict []) c.absent_literal-absent.result c.requires.untrue)
+    rw c.clause_at.ensures
+    (untrue_besides (literals c.args.trail.now.entries)
+    (get_or (c.args.given.now ++ c.args.learnt.now) c.args.conflict []) c.absent_literal-absent.result
+    c.requires.untrue)
 
 pub mark_all-requires-clause-counted : goal.mark_all-requires-clause-counted
 mark_all-requires-clause-counted c = c.in_ok-marks.ensures.counted (literals c.args.trail.now.entries)
@@ -21,15 +24,21 @@ loop-i-init c =
     let clauses = c.args.given.now ++ c.args.learnt.now in
     let more = rw c.clause_at.ensures at c.in_ok-mark_all.ensures.more in
     let start : c.mark_all.new.marks.start ≡ 0 = c.mark_all.ensures.start ∙ c.in_ok-marks.ensures.start in
-    let long : length c.mark_all.new.marks.places.items ≡ length t.entries = more.count ∙ c.in_ok-marks.ensures.len ∙ c.len.ensures in
+    let long : length c.mark_all.new.marks.places.items ≡ length t.entries =
+    more.count ∙ c.in_ok-marks.ensures.len ∙ c.len.ensures in
     record {
       inside = omega arith;
       start = start;
       len = long;
       counted = c.in_ok-mark_all.ensures.counted;
-      resolved = rw (c.new-steps.ensures, c.len-i.ensures) (resolved_first clauses t.entries c.in_ok-marks.marks.places.items c.mark_all.new.marks.places.items c.args.conflict c.absent_literal-absent.result
-          (consistent t c.known.ensures) (apart_of t c.known.ensures) more c.in_ok-marks.ensures.none (c.absent_literal-absent.ensures (get_or clauses c.args.conflict []) c.requires.untrue)
-          (All-get_or IsStrictlyIncreasing clauses c.args.conflict [] c.requires.number c.requires.rise) c.requires.number long c.requires.untrue);
+      resolved =
+          rw (c.new-steps.ensures, c.len-i.ensures)
+          (resolved_first clauses t.entries c.in_ok-marks.marks.places.items c.mark_all.new.marks.places.items
+          c.args.conflict c.absent_literal-absent.result
+          (consistent t c.known.ensures) (apart_of t c.known.ensures) more c.in_ok-marks.ensures.none
+          (c.absent_literal-absent.ensures (get_or clauses c.args.conflict []) c.requires.untrue)
+          (All-get_or IsStrictlyIncreasing clauses c.args.conflict [] c.requires.number c.requires.rise)
+          c.requires.number long c.requires.untrue);
     }
 
 pub loop-i-preserved : goal.loop-i-preserved
@@ -39,7 +48,7 @@ loop-i-preserved c =
     record {
       inside = omega arith;
       start = c.in_ok-resolve_implied.ensures.start;
-      len = c.in_ok-resolve_implied.ensures.len;
-      counted = c.in_ok-resolve_implied.ensures.counted;
+      len = c.in_ok-resolve_implied.ensures.fits.len;
+      counted = c.in_ok-resolve_implied.ensures.fits.counted;
       resolved = c.in_ok-resolve_implied.ensures.resolved c.args.conflict (rw back i.resolved);
     }

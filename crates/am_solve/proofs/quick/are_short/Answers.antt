@@ -1,4 +1,4 @@
-use Rattle.std.proofs.Common.{[], below_more, arith, sym, ap, length}
+use Rattle.std.proofs.Common.{[], below_more, arith, length}
 use Rattle.std.specs.Prelude.{◌≤◌}
 use Rattle.std.proofs.lemmas.List.Elements.{All-from_get_or}
 use Rattle.std.proofs.lemmas.Option.{get_or_from_slice_get}
@@ -11,4 +11,6 @@ loop-k-preserved c = λ d.
     below_more _ _ (c.loop-k.invariant d) (rw e (omega arith))
 
 pub returns : goal.returns
-returns c = λ _. All-from_get_or (λ (chain : Chain). length chain.steps ≤ c.args.vars) c.args.log.now (record { first = 0; steps = [] }) (λ i lt. c.loop-k.invariant _ i (omega arith))
+returns c = λ _.
+    All-from_get_or (λ (chain : Chain). length chain.steps ≤ c.args.vars) c.args.log.now
+    (record { first = 0; steps = [] }) (λ i lt. c.loop-k.invariant _ i (omega arith))

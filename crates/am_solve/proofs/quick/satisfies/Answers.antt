@@ -9,4 +9,6 @@ loop-i-preserved c =
     below_more _ _ c.loop-i.invariant (rw (← c.clause.ensures) (c.has_true.ensures c.if-not-has_true.false))
 
 pub returns : goal.returns
-returns c = λ _. All-from_get_or (λ x. IsTrue (clause_value (value_at c.args.assignment.now.values) x)) c.args.clauses.now [] (λ i lt. c.loop-i.invariant i (omega arith))
+returns c = λ _.
+    All-from_get_or (λ x. IsTrue (clause_value (value_at c.args.assignment.now.values) x)) c.args.clauses.now []
+    (λ i lt. c.loop-i.invariant i (omega arith))

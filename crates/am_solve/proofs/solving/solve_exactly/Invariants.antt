@@ -10,5 +10,6 @@ invariant-loop-conflicts l = record {
   count : length l.search.learnt ≡ l.conflicts;
   vars : l.search.trail.vars ≡ l.formula.vars;
   chooses : CanChoose l.search;
-  keeps : l.over_base ≡ true → Determines l.formula.clauses l.formula.vars l.first → KeepsTo l.first l.search.learnt l.search.trail.entries;
+  keeps : l.over_base ≡ true → Determines l.formula.clauses l.formula.vars l.first
+      → KeepsTo l.first l.search.learnt l.search.trail.entries;
 }

@@ -4,4 +4,5 @@ use Rattle.am_syntax.specs.Spelling.{letter_code}
 use Rattle.am_syntax.proofs.lines.print_arguments.Given as goal
 
 abbrev pub invariant-terms : goal.invariant-terms
-invariant-terms l = l.out ≡ l.initial.out ++ flat_map (λ t. 32 ∷ term_text (letter_code l.letter) t) (take l.term-index l.terms)
+invariant-terms l =
+    l.out ≡ l.initial.out ++ flat_map (λ t. 32 ∷ term_text (letter_code l.letter) t) (take l.term-index l.terms)

@@ -1,4 +1,4 @@
-use Rattle.std.proofs.Common.{◌++◌, [], ◌∷◌, append_assoc, arith}
+use Rattle.std.proofs.Common.{◌++◌, [], ◌∷◌, append_assoc, arith, length-append}
 use Rattle.am_watch.proofs.Laws.{holds_back}
 use Rattle.am_test_clauses.proofs.watching.learn.Goals as goal
 
@@ -9,4 +9,5 @@ propagate-requires-clause-holds c =
     rw (c.in_ok-push.ensures.ok, ← append_assoc clauses c.args.learnt.now (c.args.lits.now ∷ []), c.back_to.ensures)
     (c.in_ok-add.ensures.ok (clauses ++ c.args.learnt.now) _
     (holds_back c.args.watch.now (clauses ++ c.args.learnt.now) t 0 c.requires.holds c.known.ensures (omega arith))
+    (omega (arith, c.len.ensures, c.len-2.ensures, length-append clauses c.args.learnt.now))
     c.requires.variables)

@@ -5,12 +5,14 @@ use Rattle.am_text.proofs.scan.token_from.Goals as goal
 
 pub returns-then-is_empty-clause-none : goal.returns-then-is_empty-clause-none
 returns-then-is_empty-clause-none c =
-    tokens_at-none c.args.at c.spaces.result c.args.bytes.now c.split_at.result.1.now (c.spaces.ensures.value, c.split_at.ensures.back)
+    tokens_at-none c.args.at c.spaces.result c.args.bytes.now c.split_at.result.1.now
+    (c.spaces.ensures.value, c.split_at.ensures.back)
     (eqb-true _ _ (sym c.is_empty.ensures ∙ c.if-is_empty.true))
 
 pub returns-clause-some : goal.returns-clause-some
 returns-clause-some c =
     let apart = eqb-false _ _ (sym c.is_empty.ensures ∙ c.if-is_empty.false) in
     let long : 0 < length c.split_at.result.1.now = omega arith in
-    let law = tokens_at-next c.args.at c.spaces.result c.args.bytes.now c.split_at.result.1.now (c.spaces.ensures.value, c.split_at.ensures.back) long in
+    let law = tokens_at-next c.args.at c.spaces.result c.args.bytes.now c.split_at.result.1.now
+    (c.spaces.ensures.value, c.split_at.ensures.back) long in
     cc

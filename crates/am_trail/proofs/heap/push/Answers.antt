@@ -2,8 +2,8 @@ use Rattle.std.proofs.Common.{◌≡◌, ◌+◌, [], ◌∷◌, ap, length, len
 use Rattle.am_trail.proofs.Placing.{placed_more, room}
 use Rattle.am_trail.proofs.heap.push.Goals as goal
 
-pub push_within-requires : goal.push_within-requires
-push_within-requires c = omega (
+pub push_reserved-requires : goal.push_reserved-requires
+push_reserved-requires c = omega (
   arith,
   room c.args.heap.now.items c.args.places.now c.requires.placed c.args.v
       c.requires.v c.requires.free,
@@ -15,10 +15,10 @@ overflow_cast-places c = omega (
   arith,
   room c.args.heap.now.items c.args.places.now c.requires.placed c.args.v
       c.requires.v c.requires.free,
-  ap length c.push_within.ensures.heap,
+  ap length c.push_reserved.ensures.items,
   length-append c.args.heap.now.items
       (c.args.v ∷ []),
-  c.push_within.new.heap.ok.0,
+  c.push_reserved.new.self.ok.0,
 )
 
 pub returns-clause-placed : goal.returns-clause-placed
@@ -26,9 +26,9 @@ returns-clause-placed c =
     let count : c.len.result ≡ length c.args.heap.now.items + 1 =
     omega (
       arith,
-      ap length c.push_within.ensures.heap,
+      ap length c.push_reserved.ensures.items,
       length-append c.args.heap.now.items (c.args.v ∷ []),
-      c.push_within.new.heap.ok.0,
+      c.push_reserved.new.self.ok.0,
     ) in
-    rw (c.push_within.ensures.heap, count)
+    rw (c.push_reserved.ensures.items, count)
     (placed_more c.args.heap.now.items c.args.places.now c.requires.placed c.args.v c.requires.v c.requires.free)

@@ -2,8 +2,8 @@ use Rattle.std.proofs.Common.{◌+◌, ◌≤◌, [], ◌∷◌, length, length-
 use Rattle.am_trail.proofs.Entries.{put_placed, put_room}
 use Rattle.am_trail.proofs.places.put.Goals as goal
 
-pub push_within-requires : goal.push_within-requires
-push_within-requires c =
+pub push_reserved-requires : goal.push_reserved-requires
+push_reserved-requires c =
     let room : length c.args.entries.now.items + 1 ≤ length c.args.places.now.items =
     put_room c.args.entries.now.items c.args.places.now.items c.requires.placed c.args.entry
     (omega (arith, c.args.places.now.ok.0)) c.requires.free in
@@ -17,20 +17,20 @@ overflow_cast-place c =
     omega (
       arith,
       c.args.places.now.ok.0,
-      ap length c.push_within.ensures.entries,
+      ap length c.push_reserved.ensures.items,
       length-append c.args.entries.now.items (c.args.entry ∷ []),
-      c.push_within.new.entries.ok.0,
+      c.push_reserved.new.self.ok.0,
     )
 
 pub returns-clause-placed : goal.returns-clause-placed
 returns-clause-placed c =
-    rw (c.push_within.ensures.entries, c.variable-variable.ensures)
+    rw (c.push_reserved.ensures.items, c.variable-variable.ensures)
     (put_placed c.args.entries.now.items c.args.places.now.items c.requires.placed c.args.entry
     (omega (arith, c.args.places.now.ok.0)) c.requires.free c.len-place.result
     (omega (
       arith,
-      ap length c.push_within.ensures.entries,
+      ap length c.push_reserved.ensures.items,
       length-append c.args.entries.now.items
           (c.args.entry ∷ []),
-      c.push_within.new.entries.ok.0,
+      c.push_reserved.new.self.ok.0,
     )))

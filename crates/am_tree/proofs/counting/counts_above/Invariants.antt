@@ -6,5 +6,6 @@ use Rattle.am_tree.proofs.counting.counts_above.Given as goal
 abbrev pub invariant-loop-productions : goal.invariant-loop-productions
 invariant-loop-productions l = record {
   len : length l.counts.items ≡ l.productions-index;
-  counts : (f : ℕ → ℕ) → AreCounts f l.below → AreCounts (λ n. sum_by (production_count f) (slice_index_or l.rules n [])) l.counts.items;
+  counts : (f : ℕ → ℕ) → AreCounts f l.below
+      → AreCounts (λ n. sum_by (production_count f) (slice_index_or l.rules n [])) l.counts.items;
 }

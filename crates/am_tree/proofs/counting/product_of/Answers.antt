@@ -8,4 +8,5 @@ loop-n-preserved c = λ f counts.
     let i = c.loop-n.n-index in
     let n = get_or c.args.names.now i 0 in
     rw (product-more f c.args.names.now i c.loop-n-test.true)
-    (c.times-product.ensures (product_by f (take i c.args.names.now)) (f n) (c.loop-n.invariant f counts) (counts n (c.requires i 0 c.loop-n-test.true)))
+    (c.times-product.ensures (product_by f (take i c.args.names.now)) (f n) (c.loop-n.invariant f counts)
+    (counts n (c.requires i 0 c.loop-n-test.true)))

@@ -7,7 +7,8 @@ use Rattle.am_tree.proofs.grammar.are_productions.Goals as goal
 pub loop-production-preserved : goal.loop-production-preserved
 loop-production-preserved c =
     let here : is_production c.args.count c.production-item.result ≡ true = cc in
-    All-more (λ p. IsTrue (is_production c.args.count p)) c.args.productions.now c.loop-production.production-index c.production-item.result
+    All-more (λ p. IsTrue (is_production c.args.count p)) c.args.productions.now c.loop-production.production-index
+    c.production-item.result
     c.loop-production-test.true c.loop-production.invariant (rw (← c.production-item.is) here)
 
 pub returns : goal.returns

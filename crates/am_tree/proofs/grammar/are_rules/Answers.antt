@@ -14,7 +14,16 @@ loop-productions-preserved c =
     let here : All (λ p. IsTrue (is_production (length rules) p)) (get_or rules i ps) =
     rw (← c.productions-item.is, ← c.as_slice.ensures) (c.are_productions.ensures.0 c.if-not-are_productions.false) in
     record {
-      each = All-more (All (λ p. IsTrue (is_production (length rules) p))) rules i ps below c.loop-productions.invariant.each here;
-      total = omega (arith, c.loop-productions.invariant.total, c.len-total.ensures, sum_by_more length rules i ps below, ap length c.productions-item.is);
+      each =
+          All-more (All (λ p. IsTrue (is_production (length rules) p))) rules i ps below
+          c.loop-productions.invariant.each here;
+      total =
+          omega (
+            arith,
+            c.loop-productions.invariant.total,
+            c.len-total.ensures,
+            sum_by_more length rules i ps below,
+            ap length c.productions-item.is,
+          );
       most = omega (arith, c.if-len-total.false, c.len.ensures, c.len-total.ensures, c.loop-productions.invariant.most);
     }

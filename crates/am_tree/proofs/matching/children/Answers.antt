@@ -14,9 +14,13 @@ returns-else-eq c = λ rules d found ts makes.
     let names = c.in-Node.names in
     let other = c.in-Node-term.other in
     let args = c.in-Node-term.args in
-    let made : Produces rules d (Node op names) (NodeTerm other args) ts = rw (c.in-Node.is, c.in-Node-term.is) at makes in
+    let made : Produces rules d (Node op names) (NodeTerm other args) ts =
+    rw (c.in-Node.is, c.in-Node-term.is) at makes in
     let parts = node-parts rules d op names other args ts made in
     elim c.else-eq.branch [
       | else-eq-via-then-eq+else-len w ↦ w.if-len.false (w.len.ensures ∙ parts.long ∙ sym w.len-then-eq.ensures)
-      | else-eq-via-else-eq w ↦ let yes : c.eq.result ≡ true = c.eq.ensures ∙ subst (λ o. sameb the_type op o ≡ true) parts.same (op-reflexive op) in cc
+      | else-eq-via-else-eq w ↦
+          let yes : c.eq.result ≡ true =
+          c.eq.ensures ∙ subst (λ o. sameb the_type op o ≡ true) parts.same (op-reflexive op) in
+          cc
     ]

@@ -14,12 +14,22 @@ pub add_argument-requires : goal.add_argument-requires
 add_argument-requires c =
     let short = subst (λ (p : Production). length (arguments p) ≤ 3) c.in-Node.is c.requires.short in
     let same = ap length c.as_slice-name-items.ensures in
-    omega (arith, short, same, length-positioned 0 c.in-Node.names, c.loop-position-test.true, c.loop-position.invariant.len, c.requires.room)
+    omega (
+      arith,
+      short,
+      same,
+      length-positioned 0 c.in-Node.names,
+      c.loop-position-test.true,
+      c.loop-position.invariant.len,
+      c.requires.room,
+    )
 
 pub loop-position-preserved : goal.loop-position-preserved
 loop-position-preserved c = record {
   items = rw c.add_argument.ensures.items
-      (distinct-name c.loop-position.seen.items c.loop-position.position c.as_slice-name-items.result.now c.loop-position-test.true ∙ c.loop-position.invariant.items);
+      (distinct-name c.loop-position.seen.items c.loop-position.position c.as_slice-name-items.result.now
+      c.loop-position-test.true
+      ∙ c.loop-position.invariant.items);
   len = omega (arith, c.add_argument.ensures.len, c.loop-position.invariant.len);
 }
 
@@ -27,4 +37,11 @@ pub returns-after-loop-position-clause-len : goal.returns-after-loop-position-cl
 returns-after-loop-position-clause-len c =
     let short = subst (λ (p : Production). length (arguments p) ≤ 3) c.in-Node.is c.requires.short in
     let same = ap length c.as_slice-name-items.ensures in
-    omega (arith, short, same, length-positioned 0 c.in-Node.names, c.loop-position.invariant.len, c.loop-position.auto.position-end)
+    omega (
+      arith,
+      short,
+      same,
+      length-positioned 0 c.in-Node.names,
+      c.loop-position.invariant.len,
+      c.loop-position.auto.position-end,
+    )

@@ -13,9 +13,12 @@ pub children_sum-requires-clause-inside : goal.children_sum-requires-clause-insi
 children_sum-requires-clause-inside c =
     let rules = c.args.rules.now in
     let n = c.loop-n.n in
-    let same = c.as_slice.ensures ∙ c.index-rules-n.is ∙ get_or_default rules n c.index-rules-n.result [] c.loop-n-test.true in
-    rw c.requires.below.len (subst (λ (ps : List Production). All (λ (a : Argument). a.symbol < length rules) (shared_by 1 ps)) (sym same)
-    (All-from_recursion (λ (a : Argument). a.symbol < length rules) (shared_by 1 (get_or rules n [])) (shared-inside (length rules) rules c.requires.rules.inside n)))
+    let same =
+    c.as_slice.ensures ∙ c.index-rules-n.is ∙ get_or_default rules n c.index-rules-n.result [] c.loop-n-test.true in
+    rw c.requires.below.len
+    (subst (λ (ps : List Production). All (λ (a : Argument). a.symbol < length rules) (shared_by 1 ps)) (sym same)
+    (All-from_recursion (λ (a : Argument). a.symbol < length rules) (shared_by 1 (get_or rules n []))
+    (shared-inside (length rules) rules c.requires.rules.inside n)))
 
 pub loop-n-preserved : goal.loop-n-preserved
 loop-n-preserved c =
@@ -24,12 +27,18 @@ loop-n-preserved c =
     let below = c.args.below.now in
     let n = c.loop-n.n in
     let sums = c.loop-n.sums.items in
-    let same = c.as_slice.ensures ∙ c.index-rules-n.is ∙ get_or_default rules n c.index-rules-n.result [] c.loop-n-test.true in
+    let same =
+    c.as_slice.ensures ∙ c.index-rules-n.is ∙ get_or_default rules n c.index-rules-n.result [] c.loop-n-test.true in
     let here = ap (λ (k : ℕ). get_or inner n 0 + k)
-    (c.children_sum.ensures.value ∙ ap (λ (ps : List Production). sum_by (λ (a : Argument). slice_index below a.symbol) (shared_by 1 ps)) same) in
+    (c.children_sum.ensures.value
+    ∙ ap (λ (ps : List Production). sum_by (λ (a : Argument). slice_index below a.symbol) (shared_by 1 ps)) same) in
     record {
       len = omega (arith, c.push.ensures.len, c.loop-n.invariant.len);
       each = rw c.push.ensures.items
-          (each-push (λ m y. y ≡ slice_index inner m + sum_by (λ (a : Argument). slice_index below a.symbol) (shared_by 1 (get_or rules m []))) sums
+          (each-push
+          (λ m y. y
+          ≡ slice_index inner m
+          + sum_by (λ (a : Argument). slice_index below a.symbol) (shared_by 1 (get_or rules m [])))
+          sums
           (get_or inner n 0 + c.children_sum.result) 0 n c.loop-n.invariant.len c.loop-n.invariant.each here);
     }

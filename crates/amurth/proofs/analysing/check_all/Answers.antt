@@ -13,7 +13,8 @@ returns-in_err-check_one-clause-rejected c =
     let cs = c.args.certificates.now in
     let e = c.in_err-check_one.field-0.0 in
     if_err (IsFailureAmong cs) c.from_residual.result e (p.1 ∙ ap Err p.2)
-    (failure_among cs c.certificates.i c.index-certificates-i.result e c.certificates-test.true c.index-certificates-i.is
+    (failure_among cs c.certificates.i c.index-certificates-i.result e c.certificates-test.true
+    c.index-certificates-i.is
     c.certificates.invariant c.in_err-check_one.ensures.rejected)
 
 pub certificates-preserved : goal.certificates-preserved

@@ -20,6 +20,7 @@ certificates-preserved c =
           ∙ ap (λ (y : Certificate). map operation (take i cs) ++ operation y ∷ []) c.certificate-item.is
           ∙ sym (map-append operation (take i cs) (get_or cs i x ∷ []))
           ∙ ap (map operation) (sym (take_more cs i x c.certificates-test.true));
-      limits = All-more IsCertificate cs i x c.certificates-test.true c.certificate-item.is c.certificates.invariant.limits
+      limits =
+          All-more IsCertificate cs i x c.certificates-test.true c.certificate-item.is c.certificates.invariant.limits
           c.keeps_limits.ensures;
     }

@@ -5,7 +5,7 @@ use Rattle.am_cert.specs.StoredDraft.{seen_draft}
 use Rattle.am_syntax.specs.Pieces.{next_is, repeat_from}
 use Rattle.am_syntax.proofs.Laws.{so_far_done, so_far_more}
 use Rattle.amurth.specs.Analysed.{certificate_behind}
-use Rattle.amurth.proofs.AnalysisLaws.{behind_moves, loop_refused}
+use Rattle.amurth.proofs.AnalysisLaws.{behind_moves, behind_short, loop_refused}
 use Rattle.amurth.proofs.inputs.read_certificates.Goals as goal
 
 pub returns-in_err-draft-clause-value : goal.returns-in_err-draft-clause-value
@@ -25,16 +25,18 @@ pub drafts-preserved : goal.drafts-preserved
 drafts-preserved c =
     let seen = c.drafts.drafts.items in
     let read = rw c.as_slice.ensures.value at c.in_ok-draft.ensures.value in
-    let less =
-    behind_moves (map seen_draft seen) c.drafts.text (seen_draft c.in_ok-draft.draft) c.certificate_behind.new.text read in
+    let left = c.certificate_behind.new.text in
     let room = rw c.as_slice.ensures.value at c.in_ok-draft.ensures.room in
     rw c.in_ok-put.ensures (record {
-      left = omega (arith, less, c.drafts.invariant.left);
+      left =
+          behind_short (map seen_draft seen) c.drafts.text left (seen_draft c.in_ok-draft.draft) read
+          c.drafts.invariant.left;
       few = simp length-append (omega (arith, room));
       read =
           ap (λ ds. repeat_from (next_is (codes "certificate")) certificate_behind ds c.certificate_behind.new.text)
           (map-append seen_draft seen (c.in_ok-draft.draft ∷ []))
-          ∙ so_far_more (next_is (codes "certificate")) certificate_behind behind_moves (map seen_draft seen) c.drafts.text
+          ∙ so_far_more (next_is (codes "certificate")) certificate_behind behind_moves (map seen_draft seen)
+          c.drafts.text
           (seen_draft c.in_ok-draft.draft) c.certificate_behind.new.text _ (sym c.is_next.ensures ∙ c.drafts-test.true)
           read c.drafts.invariant.read;
     })

@@ -13,7 +13,10 @@ pub returns-in-NegativeFalse : goal.returns-in-NegativeFalse
 returns-in-NegativeFalse c = rw c.in-NegativeFalse.is c.rejected-in-NegativeFalse.ensures
 
 pub returns-in-BadChain : goal.returns-in-BadChain
-returns-in-BadChain c = rw c.in-BadChain.is c.bad_chain.ensures
+returns-in-BadChain c = rw c.in-BadChain.is (rw c.why_word.ensures.word at c.within.ensures)
+
+pub returns-in-BadHint : goal.returns-in-BadHint
+returns-in-BadHint c = rw c.in-BadHint.is (rw c.hint_why_word.ensures.word at c.within-in-BadHint.ensures)
 
 pub returns-in-NotEmpty : goal.returns-in-NotEmpty
 returns-in-NotEmpty c = rw c.in-NotEmpty.is c.rejected-in-NotEmpty.ensures

@@ -9,4 +9,5 @@ print_tuples-requires c =
     let p = c.args.problem.now in
     let derives = AreTrees p.rules p.starts p.depth in
     rw c.as_slice.ensures
-    (All-weaker (λ ts. derives ts × GivesBest p ts) derives (λ ts h. h.0) c.in_ok-best.best (only_best p c.in_ok-best.best c.in_ok-best.ensures))
+    (All-weaker (λ ts. derives ts × GivesBest p ts) derives (λ ts h. h.0) c.in_ok-best.best
+    (only_best p c.in_ok-best.best c.in_ok-best.ensures))

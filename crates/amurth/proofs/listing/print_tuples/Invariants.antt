@@ -6,4 +6,6 @@ use Rattle.amurth.proofs.listing.print_tuples.Given as goal
 
 abbrev pub invariant-loop-trees : goal.invariant-loop-trees
 invariant-loop-trees l =
-    l.out ≡ l.initial.out ++ lines (map (λ ts. terms_row (terms_of l.problem.rules l.problem.starts ts)) (take l.trees-index l.tuples))
+    l.out
+    ≡ l.initial.out
+    ++ lines (map (λ ts. terms_row (terms_of l.problem.rules l.problem.starts ts)) (take l.trees-index l.tuples))

@@ -6,4 +6,5 @@ use Rattle.amurth.proofs.making.summary.Goals as goal
 
 pub tuples_of-requires : goal.tuples_of-requires
 tuples_of-requires c =
-    subst (λ (p : Problem). tuple_count p.rules p.starts p.depth < 2 ^ 64) (sym c.requires.made) (made_few c.args.number)
+    subst (λ (p : Problem). tuple_count p.rules p.starts p.depth < 2 ^ 64) (sym c.requires.made)
+    (made_few c.args.number)

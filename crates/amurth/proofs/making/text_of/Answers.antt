@@ -9,7 +9,9 @@ use Rattle.amurth.proofs.making.text_of.Goals as goal
 pub summary-requires-clause-terms : goal.summary-requires-clause-terms
 summary-requires-clause-terms c =
     let best = subst (IsSynthesis c.args.problem) c.in-Best.is c.requires.synthesis in
-    rw c.as_slice.ensures (transformer_printable c.args.problem (subst IsProblem (sym c.requires.made) (made-problem c.args.number)) c.in-Best.term best.0.derivable)
+    rw c.as_slice.ensures
+    (transformer_printable c.args.problem (subst IsProblem (sym c.requires.made) (made-problem c.args.number))
+    c.in-Best.term best.0.derivable)
 
 pub unreachable-requires : goal.unreachable-requires
 unreachable-requires c =

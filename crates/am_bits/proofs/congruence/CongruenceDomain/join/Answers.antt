@@ -15,8 +15,10 @@ returns c =
     let second = c.requires.second.tuple.words in
     let both_word : both < 2 ^ w = omega (arith, and_le_l (mask a) (mask b), first 0) in
     let both_byte : both < 2 ^ 8 = omega (arith, and_le_l (mask a) (mask b), c.get-3.ensures) in
-    let differing_byte = xor_lt 8 (residue a) (residue b) (omega (arith, c.get.ensures)) (omega (arith, c.get-2.ensures)) in
-    let same = without-widths 8 w both differing both_byte differing_byte both_word (xor_lt w (residue a) (residue b) (first 1) (second 1)) in
+    let differing_byte =
+    xor_lt 8 (residue a) (residue b) (omega (arith, c.get.ensures)) (omega (arith, c.get-2.ensures)) in
+    let same = without-widths 8 w both differing both_byte differing_byte both_word
+    (xor_lt w (residue a) (residue b) (first 1) (second 1)) in
     c.modulo.ensures
     ∙ rw (c.low.ensures, c.get.ensures, c.get-2.ensures, c.get-3.ensures, c.get-4.ensures, c.get-5.ensures)
     (ap (λ x. modulo (low x) (residue a)) same)

@@ -8,8 +8,9 @@ pub invariant_of-result : goal.invariant_of-result
 invariant_of-result c = record {
   problem = c.keeps_limits.ensures;
   outcome =
-      subst (λ k. (outcome k).Good c.args.self.outcome)
+      subst (λ k. (outcome k).Good c.args.self.answer.outcome)
       (settled_shape (seen_problem c.args.self.problem) c.in_ok-problem.problem c.in_ok-problem.ensures)
-      c.args.self.follows;
-  bounded = c.args.self.bounded;
+      c.args.self.can.outcome;
+  bounded = c.args.self.can.bounded;
+  proofs = c.args.self.can.proofs;
 }

@@ -16,8 +16,10 @@ returns-then-satisfies_negative-clause-answer c =
     let k = c.args.self.now in
     let s = c.args.selection.now in
     let e = c.get-example.result.now in
-    let suits = suits_further k c.args.place e c.get-example.ensures s c.requires.selection (c.if-satisfies_negative.ensures.0 refl) in
-    rw c.in_ok-push.ensures.ok (selected_further k c.requires.keeper c.args.place e c.get-example.ensures s c.requires.selection
+    let suits = suits_further k c.args.place e c.get-example.ensures s c.requires.selection
+    (c.if-satisfies_negative.ensures.0 refl) in
+    rw c.in_ok-push.ensures.ok
+    (selected_further k c.requires.keeper c.args.place e c.get-example.ensures s c.requires.selection
     s.term c.requires.selection.derivable suits)
 
 pub fit_further-requires-clause-examples : goal.fit_further-requires-clause-examples
@@ -29,7 +31,8 @@ pub returns-in-Found-clause-answer : goal.returns-in-Found-clause-answer
 returns-in-Found-clause-answer c =
     let found = rw c.in-Found.is at c.in_ok-term.ensures.answer in
     rw c.in_ok-push-in-Found.ensures.ok (selected_further c.args.self.now c.requires.keeper c.args.place
-    c.get-example.result.now c.get-example.ensures c.args.selection.now c.requires.selection c.in-Found.term found.0 found.1)
+    c.get-example.result.now c.get-example.ensures c.args.selection.now c.requires.selection c.in-Found.term found.0
+    found.1)
 
 pub returns-in-Refuted-clause-answer : goal.returns-in-Refuted-clause-answer
 returns-in-Refuted-clause-answer c =

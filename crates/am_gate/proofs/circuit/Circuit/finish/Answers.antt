@@ -17,7 +17,8 @@ pub returns-clause-determined : goal.returns-clause-determined
 returns-clause-determined c = λ inputs h.
     let clauses : c.self.inside.clauses ≡ c.args.self.clauses = ap (λ (n : Net). n.clauses) c.self.view_is in
     let vars : c.self.inside.vars ≡ c.args.self.vars = ap (λ (n : Net). n.vars) c.self.view_is in
-    rw (c.into_clauses.ensures, clauses, vars, h.circuit, ← h.variables) (determined c.args.self.folding h.events h.scoped)
+    rw (c.into_clauses.ensures, clauses, vars, h.circuit, ← h.variables)
+    (determined c.args.self.folding h.events h.scoped)
 
 pub returns-clause-rising : goal.returns-clause-rising
 returns-clause-rising c = λ inputs h. rw (← h.variables) (inputs-rise c.args.self.folding h.events)

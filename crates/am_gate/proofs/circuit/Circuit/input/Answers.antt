@@ -7,9 +7,17 @@ use Rattle.am_gate.proofs.Normals.{IsCircuit-after}
 use Rattle.am_gate.proofs.circuit.Circuit.input.Goals as goal
 
 pub invariant_of-self : goal.invariant_of-self
-invariant_of-self c = rw append-nil at (IsCircuit-after (record { vars = c.self.inside.vars; clauses = c.self.inside.clauses; folding = c.self.inside.folding }) Input c.self.invariant (All-nil (IsLiteral c.self.inside.vars)))
+invariant_of-self c =
+    rw append-nil at
+    (IsCircuit-after
+    (record { vars = c.self.inside.vars; clauses = c.self.inside.clauses; folding = c.self.inside.folding })
+    Input c.self.invariant (All-nil (IsLiteral c.self.inside.vars)))
 
 pub returns-clause-ok : goal.returns-clause-ok
 unfolding after
 returns-clause-ok c =
-    rw (c.next-g.ensures, ← c.self.view_is) (rw append-nil at (Follows-ask (record { vars = c.self.inside.vars; clauses = c.self.inside.clauses; folding = c.self.inside.folding }) Input (never-input c.self.inside.folding)))
+    rw (c.next-g.ensures, ← c.self.view_is)
+    (rw append-nil at
+    (Follows-ask
+    (record { vars = c.self.inside.vars; clauses = c.self.inside.clauses; folding = c.self.inside.folding })
+    Input (never-input c.self.inside.folding)))

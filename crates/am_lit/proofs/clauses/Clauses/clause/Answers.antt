@@ -4,4 +4,9 @@ use Rattle.am_lit.proofs.clauses.Clauses.clause.Goals as goal
 
 pub row-requires-clause-in_range : goal.row-requires-clause-in_range
 row-requires-clause-in_range c =
-    omega (arith, length_rows 0 c.self.inside.ends.items c.self.inside.lits.items, ap length c.self.view_is, ap length c.as_slice-2.ensures.value)
+    omega (
+      arith,
+      length_rows 0 c.self.inside.ends.items c.self.inside.lits.items,
+      ap length c.self.view_is,
+      ap length c.as_slice-2.ensures.value,
+    )

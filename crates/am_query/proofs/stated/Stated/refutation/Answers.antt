@@ -9,5 +9,6 @@ trimmed-requires c =
 pub returns-clause-short : goal.returns-clause-short
 returns-clause-short c =
     let formula = c.args.self.now.formula in
-    short_trimmed c.trimmed_chains_are_the_logs.ensures formula.vars (length formula.clauses) c.args.log.now c.in_ok-kept.kept
+    short_trimmed c.trimmed_chains_are_the_logs.ensures formula.vars (length formula.clauses) c.args.log.now
+    c.in_ok-kept.kept
     c.in_ok-kept.ensures.needed c.requires.short

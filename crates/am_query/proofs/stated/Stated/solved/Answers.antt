@@ -1,4 +1,4 @@
-use Rattle.std.proofs.Common.{◌≤◌, length, arith}
+use Rattle.std.proofs.Common.{arith}
 use Rattle.am_query.proofs.stated.Stated.solved.Goals as goal
 
 pub refutation-requires : goal.refutation-requires

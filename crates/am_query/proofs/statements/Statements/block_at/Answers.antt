@@ -13,7 +13,8 @@ at-requires-clause-over c =
     let formed = subst IsFormed c.self.view_is c.keeps_limits.ensures.formed in
     let same : c.as_slice-2.result.now ≡ map (constant p.width) c.args.row.now =
     rw (c.width.ensures, c.as_slice.ensures.value) at (c.as_slice-2.ensures ∙ c.in_ok-fields.ensures) in
-    let many : length c.as_slice-2.result.now ≡ all_fields p = rw same (length-map c.args.row.now (constant p.width) ∙ c.requires.row.counted) in
+    let many : length c.as_slice-2.result.now ≡ all_fields p =
+    rw same (length-map c.args.row.now (constant p.width) ∙ c.requires.row.counted) in
     rw c.requires.template (over_fields p formed (length c.as_slice-2.result.now) many)
 
 pub at-requires-clause-fields : goal.at-requires-clause-fields

@@ -2,4 +2,5 @@ use Rattle.am_query.proofs.Calls.{Gives-refused}
 use Rattle.am_query.proofs.statements.Statements.exclude.Goals as goal
 
 pub returns : goal.returns
-returns c = Gives-refused c.in_ok-l.ensures (rw c.opposite.ensures at c.in_ok-force.ensures.ok) c.in_ok-force.ensures.grows
+returns c =
+    Gives-refused c.in_ok-l.ensures (rw c.opposite.ensures at c.in_ok-force.ensures.ok) c.in_ok-force.ensures.grows

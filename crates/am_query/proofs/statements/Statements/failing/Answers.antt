@@ -9,7 +9,8 @@ use Rattle.am_query.proofs.statements.Statements.failing.Goals as goal
 pub blast_all-requires-clause-fits : goal.blast_all-requires-clause-fits
 blast_all-requires-clause-fits c =
     let formed : IsFormed c.args.self.now = rw c.self.view_is at c.keeps_limits.ensures.formed in
-    rw (c.as_slice.ensures, c.width-2.ensures, c.requires.fields.many) (derivable_terms_fit c.args.self.now formed c.args.t.now c.requires.transformer).fit
+    rw (c.as_slice.ensures, c.width-2.ensures, c.requires.fields.many)
+    (derivable_terms_fit c.args.self.now formed c.args.t.now c.requires.transformer).fit
 
 pub blast_all-requires-clause-nodes : goal.blast_all-requires-clause-nodes
 blast_all-requires-clause-nodes c =
@@ -19,7 +20,8 @@ blast_all-requires-clause-nodes c =
 pub exclude-requires-clause-tuple : goal.exclude-requires-clause-tuple
 exclude-requires-clause-tuple c =
     let formed : IsFormed c.args.self.now = rw c.self.view_is at c.keeps_limits.ensures.formed in
-    let counted : length c.args.t.now ≡ fields_of c.args.self.now.kind = (derivable_terms_fit c.args.self.now formed c.args.t.now c.requires.transformer).counted in
+    let counted : length c.args.t.now ≡ fields_of c.args.self.now.kind =
+    (derivable_terms_fit c.args.self.now formed c.args.t.now c.requires.transformer).counted in
     rw (c.as_slice.ensures, c.width-2.ensures, counted) at c.in_ok-result.ensures.given
 
 pub returns : goal.returns
@@ -28,7 +30,8 @@ returns c =
     let operation : c.operation.result.now ≡ p.operation = rw c.self.view_is at c.operation.ensures in
     let value = c.in_ok-value.ensures in
     let five = rw (c.width-2.ensures, c.as_slice.ensures) at c.in_ok-result.ensures in
-    Gives-failing p c.args.t.now c.args.fields.now c.args.words.now c.in_ok-valid_inputs.ensures c.in_ok-members.ensures c.in_ok-assumed.ensures
+    Gives-failing p c.args.t.now c.args.fields.now c.args.words.now c.in_ok-valid_inputs.ensures c.in_ok-members.ensures
+    c.in_ok-assumed.ensures
     (record {
       follows = rw (c.width.ensures, operation) at value.circuit;
       given = rw c.width.ensures at value.word;

@@ -29,7 +29,10 @@ loop-word-preserved c =
       follows = λ last h. inv.follows last
           (rw (step, drop-from i c.word-item.result words c.loop-word-test.true c.word-item.is)
           (Follows-paired _ k m row c.word-item.result (drop (i + 1) words) stated.follows (rw back at h)));
-      rest = rw back (AreWordsIn-later p.width (m * k) _ _ (drop k row) stated.grows.not_less (other-words p.width k m _ row rest));
+      rest =
+          rw back
+          (AreWordsIn-later p.width (m * k) _ _ (drop k row) stated.grows.not_less
+          (other-words p.width k m _ row rest));
       grows = Grows-trans _ inv.grows stated.grows (omega arith);
     }
 
@@ -38,11 +41,13 @@ returns c =
     let p = c.args.self.now in
     let i = c.loop-word.word-index in
     let inv = c.loop-word.invariant in
-    let done : i ≡ p.inputs = omega (arith, c.loop-word-test.false, c.loop-word.auto.word-index-end, c.requires.words.many) in
+    let done : i ≡ p.inputs =
+    omega (arith, c.loop-word-test.false, c.loop-word.auto.word-index-end, c.requires.words.many) in
     let none : p.inputs - i ≡ 0 = omega (arith, done) in
     record {
       follows = inv.follows c.loop-word.circuit
-          (rw (none, drop_all i c.args.words.now c.loop-word-test.false) (Follows-paired_end _ (fields_of p.kind) c.loop-word.rest.now));
+          (rw (none, drop_all i c.args.words.now c.loop-word-test.false)
+          (Follows-paired_end _ (fields_of p.kind) c.loop-word.rest.now));
       given = tt;
       grows = rw done at inv.grows;
     }

@@ -12,8 +12,10 @@ abbrev pub invariant-loop-word : goal.invariant-loop-word
 invariant-loop-word l = record {
   follows : (end : Net) →
       Follows (each (λ (tuple, word). forced (member_test l.fn.self tuple word))
-      (zip (split (fields_of l.fn.self.kind) (l.fn.self.inputs - l.word-index) l.rest) (drop l.word-index l.fn.words))) l.circuit tt end →
+      (zip (split (fields_of l.fn.self.kind) (l.fn.self.inputs - l.word-index) l.rest) (drop l.word-index l.fn.words)))
+      l.circuit tt end →
       Follows (members l.fn.self l.fn.fields l.fn.words) l.initial.circuit tt end;
-  rest : AreWordsIn l.fn.self.width ((l.fn.self.inputs - l.word-index) * fields_of l.fn.self.kind) l.circuit.vars l.rest;
+  rest : AreWordsIn l.fn.self.width ((l.fn.self.inputs - l.word-index) * fields_of l.fn.self.kind)
+      l.circuit.vars l.rest;
   grows : Grows (l.word-index * (member_weight l.fn.self + 1)) l.initial.circuit l.circuit;
 }

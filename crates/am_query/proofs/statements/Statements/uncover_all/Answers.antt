@@ -10,16 +10,20 @@ loop-e-preserved c =
     let stated = c.in_ok-uncover.ensures in
     record {
       follows = λ end h. inv.follows end
-          (Follows-each_at (uncovered c.args.self.now) c.loop-e.e-index c.e-item.result c.args.neg.now c.loop-e-test.true c.e-item.is stated.follows h);
+          (Follows-each_at (uncovered c.args.self.now) c.loop-e.e-index c.e-item.result c.args.neg.now
+          c.loop-e-test.true c.e-item.is stated.follows h);
       grows = Grows-trans _ inv.grows stated.grows (omega arith);
     }
 
 pub returns : goal.returns
 returns c =
     let inv = c.loop-e.invariant in
-    let done : c.loop-e.e-index ≡ length c.args.neg.now = omega (arith, c.loop-e-test.false, c.loop-e.auto.e-index-end) in
+    let done : c.loop-e.e-index ≡ length c.args.neg.now =
+    omega (arith, c.loop-e-test.false, c.loop-e.auto.e-index-end) in
     record {
-      follows = inv.follows c.loop-e.circuit (Follows-each_end (uncovered c.args.self.now) c.loop-e.e-index c.args.neg.now c.loop-e-test.false);
+      follows =
+          inv.follows c.loop-e.circuit
+          (Follows-each_end (uncovered c.args.self.now) c.loop-e.e-index c.args.neg.now c.loop-e-test.false);
       given = tt;
       grows = rw done at inv.grows;
     }

@@ -1,7 +1,8 @@
 use Rattle.std.proofs.Common.{◌≡◌, arith}
 use Rattle.am_problem.specs.Examples.{all_fields}
 use Rattle.am_problem.specs.Limits.{IsProblem}
-use Rattle.am_query.proofs.Unsound.{fields_inside, fields_stand, room_behind, room_for_failing, unsound_inputs, unsound_stated, words_stand}
+use Rattle.am_query.proofs.Unsound.{fields_inside, fields_stand, room_behind, room_for_failing, unsound_inputs}
+use Rattle.am_query.proofs.Unsound.{unsound_stated, words_stand}
 use Rattle.am_query.proofs.Tuples.{AreWordsIn-later}
 use Rattle.am_query.proofs.statements.Statements.unsound.Goals as goal
 
@@ -13,7 +14,8 @@ failing-requires-clause-room c =
     let inputs : c.inputs.result ≡ p.inputs = rw c.self.view_is at c.inputs.ensures in
     let first = rw (c.width-w.ensures, fields) at c.in_ok-fields.ensures.ok in
     let second = rw (c.width-w.ensures, inputs) at c.in_ok-words.ensures.ok in
-    room_for_failing p is c.args.t.now c.requires.transformer _ _ _ c.in_ok-fields.fields c.in_ok-words.words c.requires.fresh first second
+    room_for_failing p is c.args.t.now c.requires.transformer _ _ _ c.in_ok-fields.fields c.in_ok-words.words
+    c.requires.fresh first second
 
 pub returns : goal.returns
 returns c =
@@ -36,7 +38,9 @@ returns c =
       words = record {
         fields = fields_stand p is t of _ _ _ f w fresh first second;
         words = words_stand p is t of _ _ _ f w fresh first second;
-        fields_inside = AreWordsIn-later p.width (all_fields p) _ _ f third.grows.not_less (fields_inside p is t of _ _ _ f w fresh first second);
+        fields_inside =
+            AreWordsIn-later p.width (all_fields p) _ _ f third.grows.not_less
+            (fields_inside p is t of _ _ _ f w fresh first second);
         words_inside = AreWordsIn-later p.width p.inputs _ _ w third.grows.not_less second.given;
       };
       inputs = unsound_inputs p is t of _ _ _ f w fresh first second _ third _ c.in_ok-words.ensures.inputs;

@@ -25,7 +25,10 @@ loop-preserved c =
     record {
       place = omega (arith, here);
       follows = λ last h. inv.follows last (rw step (Follows-split _ k m row stated.follows (rw back at h)));
-      rest = rw back (AreWordsIn-later p.width (m * k) _ _ (drop k row) stated.grows.not_less (other-words p.width k m _ row rest));
+      rest =
+          rw back
+          (AreWordsIn-later p.width (m * k) _ _ (drop k row) stated.grows.not_less
+          (other-words p.width k m _ row rest));
       grows = Grows-trans _ inv.grows stated.grows (omega arith);
     }
 

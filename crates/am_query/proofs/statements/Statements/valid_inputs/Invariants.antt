@@ -12,7 +12,10 @@ abbrev pub invariant-loop : goal.invariant-loop
 invariant-loop l = record {
   place : l.counter ≤ l.fn.self.inputs;
   follows : (end : Net) →
-      Follows (each (λ tuple. forced (test l.fn.self.width (valid_term_of l.fn.self.kind l.fn.self.width) tuple)) (split (fields_of l.fn.self.kind) (l.fn.self.inputs - l.counter) l.rest)) l.circuit tt end →
+      Follows
+      (each (λ tuple. forced (test l.fn.self.width (valid_term_of l.fn.self.kind l.fn.self.width) tuple))
+      (split (fields_of l.fn.self.kind) (l.fn.self.inputs - l.counter) l.rest))
+      l.circuit tt end →
       Follows (valid l.fn.self l.fn.fields) l.initial.circuit tt end;
   rest : AreWordsIn l.fn.self.width ((l.fn.self.inputs - l.counter) * fields_of l.fn.self.kind) l.circuit.vars l.rest;
   grows : Grows (l.counter * (valid_weight l.fn.self + 1)) l.initial.circuit l.circuit;

@@ -20,7 +20,10 @@ loop-i-init c =
     let none : drop (length ns) ns ≡ [] = drop_all (length ns) ns full in
     record {
       place = omega arith;
-      follows = rw (none, c.new-words.ensures.items) (Follows-no_slot c.args.self.now.rules.now w c.args.self.now.fields.now c.args.below c.args.end _ c.args.circuit.now);
+      follows =
+          rw (none, c.new-words.ensures.items)
+          (Follows-no_slot c.args.self.now.rules.now w c.args.self.now.fields.now c.args.below c.args.end _
+          c.args.circuit.now);
       last = rw none (omega arith);
       selector = rw none (omega arith);
       many = rw (none, c.new-words.ensures.items) refl;
@@ -33,7 +36,9 @@ pub overflow_sub-first : goal.overflow_sub-first
 overflow_sub-first c =
     let i = c.loop-i.i in
     let ns = c.args.symbols.now in
-    let b = back c.args.self.now.rules.now c.args.below ns i c.args.self.now.width c.loop-i-test.true c.loop-i.invariant.place in
+    let b =
+    back c.args.self.now.rules.now c.args.below ns i c.args.self.now.width c.loop-i-test.true
+    c.loop-i.invariant.place in
     let kids = ap (λ (ks : List Argument). length ks) c.children.ensures in
     omega (arith, kids, b.children, b.most_children, c.requires.count, c.loop-i.invariant.last)
 
@@ -41,14 +46,18 @@ pub overflow_sub-selector : goal.overflow_sub-selector
 overflow_sub-selector c =
     let i = c.loop-i.i in
     let ns = c.args.symbols.now in
-    let b = back c.args.self.now.rules.now c.args.below ns i c.args.self.now.width c.loop-i-test.true c.loop-i.invariant.place in
+    let b =
+    back c.args.self.now.rules.now c.args.below ns i c.args.self.now.width c.loop-i-test.true
+    c.loop-i.invariant.place in
     omega (arith, c.width-selector.ensures.value, b.wide, b.most_wide, c.requires.widths, c.loop-i.invariant.selector)
 
 pub slot_word-requires-clause-count : goal.slot_word-requires-clause-count
 slot_word-requires-clause-count c =
     let i = c.loop-i.i in
     let ns = c.args.symbols.now in
-    let b = back c.args.self.now.rules.now c.args.below ns i c.args.self.now.width c.loop-i-test.true c.loop-i.invariant.place in
+    let b =
+    back c.args.self.now.rules.now c.args.below ns i c.args.self.now.width c.loop-i-test.true
+    c.loop-i.invariant.place in
     let kids = ap (λ (ks : List Argument). length ks) c.children.ensures in
     let last = c.loop-i.last in
     let k = length c.children.result.now in
@@ -61,13 +70,16 @@ pub slot_word-requires-clause-words : goal.slot_word-requires-clause-words
 slot_word-requires-clause-words c =
     let w = c.args.self.now.width in
     All-take (IsWord w c.loop-i.circuit.vars) _ _ (All-drop (IsWord w c.loop-i.circuit.vars) _ c.args.next.now
-    (λ k d l. IsWord-later w c.args.circuit.now.vars c.loop-i.circuit.vars _ c.loop-i.invariant.grows.not_less (c.requires.next k d l)))
+    (λ k d l. IsWord-later w c.args.circuit.now.vars c.loop-i.circuit.vars _ c.loop-i.invariant.grows.not_less
+    (c.requires.next k d l)))
 
 pub slot_word-requires-clause-room : goal.slot_word-requires-clause-room
 slot_word-requires-clause-room c =
     let i = c.loop-i.i in
     let ns = c.args.symbols.now in
-    let b = back c.args.self.now.rules.now c.args.below ns i c.args.self.now.width c.loop-i-test.true c.loop-i.invariant.place in
+    let b =
+    back c.args.self.now.rules.now c.args.below ns i c.args.self.now.width c.loop-i-test.true
+    c.loop-i.invariant.place in
     HasRoom-grown _ c.loop-i.invariant.grows c.requires.room (omega (arith, b.weight, b.most_weight))
 
 pub loop-i-preserved : goal.loop-i-preserved
@@ -89,21 +101,34 @@ loop-i-preserved c =
     let same_k : k ≡ length (shared rules below n) = omega (arith, kids) in
     let few : k ≤ last = omega (arith, same_k, b.children, b.most_children, c.requires.count, inv.last) in
     let wide = c.width-selector.ensures.value in
-    let sel : c.loop-i.selector ≡ (c.loop-i.selector - c.width-selector.result) + width rules below n = omega (arith, wide, b.wide, b.most_wide, c.requires.widths, inv.selector) in
+    let sel : c.loop-i.selector ≡ (c.loop-i.selector - c.width-selector.result) + width rules below n =
+    omega (arith, wide, b.wide, b.most_wide, c.requires.widths, inv.selector) in
     let place : (last - k) + length (shared rules below n) ≡ last = omega (arith, same_k, few) in
     let rest : drop last next ≡ drop (length (shared rules below n)) (drop (last - k) next) =
     sym (drop-drop (length (shared rules below n)) (last - k) next ∙ ap (λ j. drop j next) place) in
     let size : last - (last - k) ≡ length (shared rules below n) = omega (arith, same_k, few) in
-    let one = subst (λ x. Follows (level_words rules w fields below x (drop i ns) (drop (length (shared rules below n)) (drop (last - k) next))) c.args.circuit.now c.loop-i.words.items c.loop-i.circuit) sel (rw rest at inv.follows) in
+    let one =
+    subst
+    (λ x. Follows
+    (level_words rules w fields below x (drop i ns)
+    (drop (length (shared rules below n)) (drop (last - k) next)))
+    c.args.circuit.now c.loop-i.words.items c.loop-i.circuit)
+    sel (rw rest at inv.follows) in
     let two = rw size at word.follows in
     let items = c.in_ok-insert.ensures.items in
     record {
       place = omega (arith, inv.place);
-      follows = rw (b.items, items) (Follows-level rules w fields below (c.loop-i.selector - c.width-selector.result) n (drop i ns) (drop (last - k) next) _ _ _ _ _ one two);
+      follows =
+          rw (b.items, items)
+          (Follows-level rules w fields below (c.loop-i.selector - c.width-selector.result) n (drop i ns)
+          (drop (last - k) next) _ _ _ _ _ one two);
       last = omega (arith, b.children, few, same_k, inv.last);
       selector = omega (arith, sel, b.wide, wide, inv.selector);
       many = rw (b.items, items) (ap suc inv.many);
-      each = rw items (All-cons (IsWord w c.slot_word.new.circuit.vars) _ _ word.given (λ j d l. IsWord-later w _ _ _ word.grows.not_less (inv.each j d l)));
+      each =
+          rw items
+          (All-cons (IsWord w c.slot_word.new.circuit.vars) _ _ word.given
+          (λ j d l. IsWord-later w _ _ _ word.grows.not_less (inv.each j d l)));
       grows = Grows-trans _ inv.grows word.grows (omega (arith, b.weight));
       begins = Begins-trans inv.begins c.in_ok-word.ensures.begins;
     }

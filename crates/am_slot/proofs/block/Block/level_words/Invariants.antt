@@ -15,7 +15,10 @@ decreases-loop-i l = l.i
 abbrev pub invariant-loop-i : goal.invariant-loop-i
 invariant-loop-i l = record {
   place : l.i ≤ length l.symbols;
-  follows : Follows (level_words l.self.rules.now l.self.width l.self.fields.now l.below l.selector (drop l.i l.symbols) (drop l.last l.next)) l.initial.circuit l.words.items l.circuit;
+  follows : Follows
+      (level_words l.self.rules.now l.self.width l.self.fields.now l.below l.selector (drop l.i l.symbols)
+      (drop l.last l.next))
+      l.initial.circuit l.words.items l.circuit;
   last : l.last + length (next_level l.self.rules.now l.below (drop l.i l.symbols)) ≡ length l.next;
   selector : l.selector + widths l.self.rules.now l.below (drop l.i l.symbols) ≡ l.end;
   many : length l.words.items ≡ length (drop l.i l.symbols);

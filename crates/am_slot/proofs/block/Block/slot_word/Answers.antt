@@ -25,13 +25,18 @@ loop-production-preserved c =
     let counted = rw next at inv.selectors in
     let weighed = rw next at inv.grows.2 in
     let q : Numbered = record { number = i; production = p } in
-    let cons = sum_by-cons (λ (r : Numbered). production_weight w r.production + w) q (offered_from c.args.below (i + 1) ps) in
+    let cons =
+    sum_by-cons (λ (r : Numbered). production_weight w r.production + w) q (offered_from c.args.below (i + 1) ps) in
     record {
       follows = λ rest end h. inv.follows rest end (rw next (Follows-bind _ gives.follows h));
       word = gives.given;
       stand = (rw next at inv.stand).1;
       selectors = omega (arith, counted);
-      grows = (inv.grows.0 + (production_weight w p + w), Grows-trans _ inv.grows.1 gives.grows (omega arith), omega (arith, weighed, cons));
+      grows = (
+        inv.grows.0 + (production_weight w p + w),
+        Grows-trans _ inv.grows.1 gives.grows (omega arith),
+        omega (arith, weighed, cons),
+      );
       begins = Begins-trans inv.begins c.in_ok-word-2.ensures.begins;
     }
 
@@ -61,7 +66,9 @@ loop-production-init c =
     record {
       follows = λ rest end h. rw zero at h;
       word = rw zero (IsWord-zeros c.args.self.now.width c.args.circuit.now.vars c.requires.truth);
-      stand = rw (c.children.ensures, c.productions-productions.ensures.value) (all_stand c.args.self.now.rules.now c.args.below c.args.symbol);
+      stand =
+          rw (c.children.ensures, c.productions-productions.ensures.value)
+          (all_stand c.args.self.now.rules.now c.args.below c.args.symbol);
       selectors = refl;
       grows = (0, Grows-same c.args.circuit.now, omega arith);
       begins = Begins-same c.args.circuit.now;

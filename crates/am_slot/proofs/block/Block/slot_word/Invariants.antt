@@ -12,11 +12,20 @@ use Rattle.am_slot.proofs.block.Block.slot_word.Given as goal
 abbrev pub invariant-loop-production : goal.invariant-loop-production
 invariant-loop-production l = record {
   follows : (rest : List ℕ) (end : Net) →
-      Follows (slot_word l.self.width l.self.fields.now l.children.arguments.now l.children.words.now l.selector l.word (offered_from l.below l.production-index l.productions)) l.circuit rest end →
-      Follows (slot_word l.self.width l.self.fields.now l.children.arguments.now l.children.words.now l.x (zeros l.self.width) (offered_by l.below l.productions)) l.initial.circuit rest end;
+      Follows
+      (slot_word l.self.width l.self.fields.now l.children.arguments.now l.children.words.now l.selector l.word
+      (offered_from l.below l.production-index l.productions))
+      l.circuit rest end →
+      Follows
+      (slot_word l.self.width l.self.fields.now l.children.arguments.now l.children.words.now l.x
+      (zeros l.self.width) (offered_by l.below l.productions))
+      l.initial.circuit rest end;
   word : IsWord l.self.width l.circuit.vars l.word;
   stand : AllStand l.children.arguments.now (offered_from l.below l.production-index l.productions);
-  selectors : l.selector + length (offered_from l.below l.production-index l.productions) ≡ l.x + length (offered_by l.below l.productions);
-  grows : (k : ℕ) × Grows k l.initial.circuit l.circuit × (k + slot_weight l.self.width (offered_from l.below l.production-index l.productions) ≡ slot_weight l.self.width (offered_by l.below l.productions));
+  selectors : l.selector + length (offered_from l.below l.production-index l.productions)
+      ≡ l.x + length (offered_by l.below l.productions);
+  grows : (k : ℕ) × Grows k l.initial.circuit l.circuit
+      × (k + slot_weight l.self.width (offered_from l.below l.production-index l.productions)
+      ≡ slot_weight l.self.width (offered_by l.below l.productions));
   begins : Begins l.initial.circuit l.circuit;
 }

@@ -21,7 +21,8 @@ level_trees-requires-clause-few t c =
     omega (arith, zero, room-widths c.args.self.now.rules.now 0 c.args.symbols.now, c.requires.few)
 
 pub end_of-end-requires-clause-room : goal.end_of-end-requires-clause-room
-end_of-end-requires-clause-room t c = omega (arith, room-widths c.args.self.now.rules.now c.args.below c.args.symbols.now, c.requires.few)
+end_of-end-requires-clause-room t c =
+    omega (arith, room-widths c.args.self.now.rules.now c.args.below c.args.symbols.now, c.requires.few)
 
 pub trees-requires : goal.trees-requires
 trees-requires t c =
@@ -46,18 +47,25 @@ pub level_trees-requires-2-clause-count : goal.level_trees-requires-2-clause-cou
 level_trees-requires-2-clause-count t c =
     let same = c.as_slice.ensures.value ∙ c.in_ok-level.ensures in
     let deeper = rw same at (c.as_slice-2.ensures ∙ c.in_ok-next.ensures) in
-    rw deeper (length-trees c.args.self.now.rules.now (value_at c.args.self.now.assignment.now.values) (c.args.below - 1) c.end_of-end.result _)
+    rw deeper
+    (length-trees c.args.self.now.rules.now (value_at c.args.self.now.assignment.now.values) (c.args.below - 1)
+    c.end_of-end.result _)
 
 pub level_trees-requires-2-clause-values : goal.level_trees-requires-2-clause-values
-level_trees-requires-2-clause-values t c = omega (arith, room-widths c.args.self.now.rules.now c.args.below c.args.symbols.now, c.requires.values)
+level_trees-requires-2-clause-values t c =
+    omega (arith, room-widths c.args.self.now.rules.now c.args.below c.args.symbols.now, c.requires.values)
 
 pub level_trees-requires-2-clause-few : goal.level_trees-requires-2-clause-few
-level_trees-requires-2-clause-few t c = omega (arith, room-widths c.args.self.now.rules.now c.args.below c.args.symbols.now, c.requires.few)
+level_trees-requires-2-clause-few t c =
+    omega (arith, room-widths c.args.self.now.rules.now c.args.below c.args.symbols.now, c.requires.few)
 
 pub returns-then-below-eq0 : goal.returns-then-below-eq0
 returns-then-below-eq0 t c =
     IfOk-weaker c.level_trees.result _ _
-    (λ r e. e ∙ sym (trees-zero c.args.self.now.rules.now (value_at c.args.self.now.assignment.now.values) c.args.below c.args.x c.args.symbols.now c.if-below-eq0.true))
+    (λ r e. e
+    ∙ sym
+    (trees-zero c.args.self.now.rules.now (value_at c.args.self.now.assignment.now.values) c.args.below c.args.x
+    c.args.symbols.now c.if-below-eq0.true))
     c.level_trees.ensures
 
 pub returns : goal.returns
@@ -66,5 +74,8 @@ returns t c =
     let same = c.as_slice.ensures.value ∙ c.in_ok-level.ensures in
     let deeper = rw (same, c.end_of-end.ensures) at (c.as_slice-2.ensures ∙ c.in_ok-next.ensures) in
     IfOk-weaker c.level_trees-2.result _ _
-    (λ r e. (rw deeper at e) ∙ sym (trees-above c.args.self.now.rules.now (value_at c.args.self.now.assignment.now.values) c.args.below c.args.x c.args.symbols.now pos))
+    (λ r e. (rw deeper at e)
+    ∙ sym
+    (trees-above c.args.self.now.rules.now (value_at c.args.self.now.assignment.now.values) c.args.below
+    c.args.x c.args.symbols.now pos))
     c.level_trees-2.ensures

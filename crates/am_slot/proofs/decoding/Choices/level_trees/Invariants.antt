@@ -7,8 +7,11 @@ use Rattle.am_slot.proofs.decoding.Choices.level_trees.Given as goal
 
 abbrev pub invariant-loop-symbol : goal.invariant-loop-symbol
 invariant-loop-symbol l = record {
-  follows : l.trees ++ level_trees l.self.rules.now (value_at l.self.assignment.now.values) l.below l.selector (drop l.symbol-index l.symbols) l.rest
+  follows : l.trees
+      ++ level_trees l.self.rules.now (value_at l.self.assignment.now.values) l.below l.selector
+      (drop l.symbol-index l.symbols) l.rest
       ≡ level_trees l.self.rules.now (value_at l.self.assignment.now.values) l.below l.x l.symbols l.next;
-  selectors : l.selector + widths l.self.rules.now l.below (drop l.symbol-index l.symbols) ≡ l.x + widths l.self.rules.now l.below l.symbols;
+  selectors : l.selector + widths l.self.rules.now l.below (drop l.symbol-index l.symbols)
+      ≡ l.x + widths l.self.rules.now l.below l.symbols;
   rest : length l.rest ≡ length (next_level l.self.rules.now l.below (drop l.symbol-index l.symbols));
 }

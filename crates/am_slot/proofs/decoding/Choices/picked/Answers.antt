@@ -9,4 +9,6 @@ pub returns : goal.returns
 returns c =
     let none = offered-end c.args.below c.loop-i.i c.args.productions.now c.loop-i-test.false in
     (rw none at c.loop-i.invariant.follows)
-    ∙ sym (number_of-picked (value_at c.args.self.now.assignment.now.values) c.args.x None (offered_by c.args.below c.args.productions.now))
+    ∙ sym
+    (number_of-picked (value_at c.args.self.now.assignment.now.values) c.args.x None
+    (offered_by c.args.below c.args.productions.now))

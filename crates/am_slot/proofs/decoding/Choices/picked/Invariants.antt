@@ -9,5 +9,6 @@ abbrev pub invariant-loop-i : goal.invariant-loop-i
 invariant-loop-i l = record {
   follows : number_of (value_at l.self.assignment.now.values) l.selector l.last (offered_from l.below l.i l.productions)
       ≡ number_of (value_at l.self.assignment.now.values) l.x None (offered_by l.below l.productions);
-  selectors : l.selector + length (offered_from l.below l.i l.productions) ≡ l.x + length (offered_by l.below l.productions);
+  selectors : l.selector + length (offered_from l.below l.i l.productions)
+      ≡ l.x + length (offered_by l.below l.productions);
 }

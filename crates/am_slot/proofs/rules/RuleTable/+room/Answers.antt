@@ -4,10 +4,12 @@ use Rattle.am_slot.proofs.Tables.{room-zero, next-whole}
 use Rattle.am_slot.proofs.rules.RuleTable.+room.Goals as goal
 
 pub end_of-level-requires-clause-room : goal.end_of-level-requires-clause-room
-end_of-level-requires-clause-room t c = omega (arith, room-widths c.args.self.now c.args.below c.args.symbols.now, c.requires.room)
+end_of-level-requires-clause-room t c =
+    omega (arith, room-widths c.args.self.now c.args.below c.args.symbols.now, c.requires.room)
 
 pub returns-then-below-eq0 : goal.returns-then-below-eq0
-returns-then-below-eq0 t c = c.end_of-level.ensures ∙ room-zero c.args.self.now c.args.below c.args.symbols.now c.if-below-eq0.true
+returns-then-below-eq0 t c =
+    c.end_of-level.ensures ∙ room-zero c.args.self.now c.args.below c.args.symbols.now c.if-below-eq0.true
 
 pub room-requires : goal.room-requires
 room-requires t c =
@@ -30,7 +32,13 @@ overflow_add-result t c =
     let pos : 0 < c.args.below = omega arith in
     let same = c.as_slice.ensures.value ∙ c.in_ok-next.ensures in
     let rest = rw same at c.in_ok-room.ensures in
-    omega (arith, rest, c.end_of-level.ensures, room-above c.args.self.now c.args.below c.args.symbols.now pos, c.requires.room)
+    omega (
+      arith,
+      rest,
+      c.end_of-level.ensures,
+      room-above c.args.self.now c.args.below c.args.symbols.now pos,
+      c.requires.room,
+    )
 
 pub returns : goal.returns
 returns t c =

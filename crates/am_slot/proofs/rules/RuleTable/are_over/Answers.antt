@@ -13,7 +13,8 @@ loop-rule-preserved c =
     let items = c.as_slice-rule-items.result.now in
     let i = c.loop-rule.rule-index in
     let r = c.rule-item.result in
-    let here : P (get_or items i r).productions = rw (← c.rule-item.is, ← c.as_slice.ensures) (c.if-not-are_leaves_over.ensures.0 refl) in
+    let here : P (get_or items i r).productions =
+    rw (← c.rule-item.is, ← c.as_slice.ensures) (c.if-not-are_leaves_over.ensures.0 refl) in
     All-more (λ (q : Rule). P q.productions) items i r c.loop-rule-test.true c.loop-rule.invariant here
 
 pub returns : goal.returns

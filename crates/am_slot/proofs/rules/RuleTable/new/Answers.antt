@@ -28,7 +28,8 @@ loop-productions-preserved c =
     let item = c.productions-item.result in
     let rule = c.in_ok-rule_of.field-0 in
     let here : i < length rs = rw items at c.loop-productions-test.true in
-    let put : rule.productions ≡ get_or rs i item = c.in_ok-rule_of.ensures.productions ∙ c.as_slice.ensures ∙ (rw items at c.productions-item.is) in
+    let put : rule.productions ≡ get_or rs i item =
+    c.in_ok-rule_of.ensures.productions ∙ c.as_slice.ensures ∙ (rw items at c.productions-item.is) in
     let P = λ (r : Rule). r.children.items ≡ shared_by 1 r.productions in
     let own : P rule = rw (← c.in_ok-rule_of.ensures.productions) at c.in_ok-rule_of.ensures.children in
     record {
@@ -37,7 +38,10 @@ loop-productions-preserved c =
           ∙ ap (λ (l : List (List Production)). l ++ rule.productions ∷ []) c.loop-productions.invariant.copies
           ∙ ap (λ (p : List Production). take i rs ++ p ∷ []) put
           ∙ sym (take_more rs i item here);
-      children = rw c.in_ok-push.ensures.ok (All-append P c.loop-productions.rules (rule ∷ []) c.loop-productions.invariant.children (All-cons P rule [] own (All-nil P)));
+      children =
+          rw c.in_ok-push.ensures.ok
+          (All-append P c.loop-productions.rules (rule ∷ []) c.loop-productions.invariant.children
+          (All-cons P rule [] own (All-nil P)));
     }
 
 pub invariant_of-result : goal.invariant_of-result

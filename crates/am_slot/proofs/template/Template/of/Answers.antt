@@ -5,4 +5,5 @@ use Rattle.am_slot.proofs.template.Template.of.Goals as goal
 pub room-requires-clause-room : goal.room-requires-clause-room
 room-requires-clause-room c =
     let g = c.args.grammar.now in
-    rw (c.in_ok-rules.ensures, c.as_slice.ensures) (omega (arith, selectors_most g.rules g.starts g.depth g.well_formed c.requires))
+    rw (c.in_ok-rules.ensures, c.as_slice.ensures)
+    (omega (arith, selectors_most g.rules g.starts g.depth g.well_formed c.requires))

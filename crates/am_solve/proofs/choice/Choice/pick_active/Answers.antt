@@ -15,13 +15,18 @@ returns-in_default-clause-none c =
 pub returns-then-not-has_value-clause-ready_some : goal.returns-then-not-has_value-clause-ready_some
 returns-then-not-has_value-clause-ready_some c = λ e is.
     let s = c.loop-variable.self in
-    ready_decided c.in-Some.variable s.order c.take_first.new.self s.phases.items c.args.trail.now.vars c.args.trail.now.entries c.literal-l.result e c.in-Some.ensures.taken c.literal-l.ensures is c.loop-variable.invariant
+    ready_decided c.in-Some.variable s.order c.take_first.new.self s.phases.items c.args.trail.now.vars
+    c.args.trail.now.entries c.literal-l.result e c.in-Some.ensures.taken c.literal-l.ensures is
+    c.loop-variable.invariant
 
 pub loop-variable-smaller : goal.loop-variable-smaller
-loop-variable-smaller c = shorter_held c.in-Some.variable c.loop-variable.self.order c.take_first.new.self c.in-Some.ensures.taken c.known-in-loop-variable.ensures.rising c.in-Some.ensures.first.held
+loop-variable-smaller c =
+    shorter_held c.in-Some.variable c.loop-variable.self.order c.take_first.new.self c.in-Some.ensures.taken
+    c.known-in-loop-variable.ensures.rising c.in-Some.ensures.first.held
 
 pub loop-variable-preserved : goal.loop-variable-preserved
 loop-variable-preserved c =
     let s = c.loop-variable.self in
-    ready_taken c.in-Some.variable s.order c.take_first.new.self s.phases.items c.args.trail.now.vars c.args.trail.now.entries c.in-Some.ensures.taken
+    ready_taken c.in-Some.variable s.order c.take_first.new.self s.phases.items c.args.trail.now.vars
+    c.args.trail.now.entries c.in-Some.ensures.taken
     (rw c.literal-l.ensures at (c.has_value.ensures.yes c.if-not-has_value.false)) c.loop-variable.invariant

@@ -1,5 +1,5 @@
 use Rattle.std.proofs.Common.{take, All}
-use Rattle.am_solve.specs.inside.Choosing.{HasValue}
+use Rattle.am_trail.specs.Trails.{HasValue}
 use Rattle.am_solve.proofs.choice.Choice.pick_first.Given as goal
 
 abbrev pub invariant-loop-variable : goal.invariant-loop-variable

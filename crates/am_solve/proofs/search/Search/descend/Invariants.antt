@@ -11,7 +11,8 @@ invariant-loop-conflict l = record {
   vars : l.self.trail.vars ≡ l.initial.self.trail.vars;
   chooses : CanChoose l.self;
   keeps : Determines l.formula.clauses l.initial.self.trail.vars l.first
-      → KeepsTo l.first l.initial.self.learnt l.initial.self.trail.entries → KeepsTo l.first l.self.learnt l.self.trail.entries;
+      → KeepsTo l.first l.initial.self.learnt l.initial.self.trail.entries
+      → KeepsTo l.first l.self.learnt l.self.trail.entries;
 }
 
 abbrev pub decreases-loop-conflict : goal.decreases-loop-conflict

@@ -12,10 +12,17 @@ use Rattle.am_solve.proofs.Levels.{all_implied}
 use Rattle.am_solve.proofs.Unique.{chain_empties}
 use Rattle.am_solve.proofs.search.Search.refute.Goals as goal
 
-pub resolve_all-requires-clause-rise : goal.resolve_all-requires-clause-rise
-resolve_all-requires-clause-rise c =
+pub resolve_all-requires : goal.resolve_all-requires
+resolve_all-requires c =
     let s = c.args.self.now in
-    All-weaker (IsNormal s.trail.vars) IsStrictlyIncreasing (λ x n. n.rising) (c.args.given.now ++ s.learnt) c.requires.searches.normal
+    record {
+      number = c.requires.number;
+      untrue = c.requires.untrue;
+      rise =
+          All-weaker (IsNormal s.trail.vars) IsStrictlyIncreasing (λ x n. n.rising) (c.args.given.now ++ s.learnt)
+          c.requires.searches.normal;
+      explained = c.requires.searches.explained;
+    }
 
 pub returns-clause-refutes : goal.returns-clause-refutes
 returns-clause-refutes c =
@@ -24,20 +31,34 @@ returns-clause-refutes c =
     let f = c.in_ok-_marks.field-0 in
     let r = c.in_ok-_marks.ensures.resolved in
     let chain : Chain = record { first = c.args.conflict; steps = f.steps } in
-    let empty : clause_of clauses chain ≡ Ok [] = chain_empties clauses (literals s.trail.entries) f.marks.places.items c.args.conflict f.steps r.reached c.requires.number
-    (none_marked clauses s.trail.entries f.marks.places.items c.args.conflict f.steps r (all_implied 0 s.trail.entries s.trail.level c.known.ensures.leads (omega arith))) in
-    rw c.in_ok-push.ensures.ok (s.learnt ++ [] ∷ [], replay-append c.args.given.now [] s.learnt s.log chain [] c.requires.searches.derives empty, (s.learnt, refl))
+    let empty : clause_of clauses chain ≡ Ok [] =
+    chain_empties clauses (literals s.trail.entries) f.marks.places.items c.args.conflict f.steps r.reached
+    c.requires.number
+    (none_marked clauses s.trail.entries f.marks.places.items c.args.conflict f.steps r
+    (all_implied 0 s.trail.entries s.trail.level c.known.ensures.leads (omega arith))) in
+    rw c.in_ok-push.ensures.ok (
+      s.learnt ++ [] ∷ [],
+      replay-append c.args.given.now [] s.learnt s.log chain [] c.requires.searches.derives empty,
+      (s.learnt, refl),
+    )
 
 pub returns-clause-longer : goal.returns-clause-longer
 returns-clause-longer c =
     let s = c.args.self.now in
     let f = c.in_ok-_marks.field-0 in
     let chain : Chain = record { first = c.args.conflict; steps = f.steps } in
-    rw c.in_ok-push.ensures.ok (omega (arith, length-append s.log (chain ∷ []), length-replay c.args.given.now [] s.learnt s.log c.requires.searches.derives))
+    rw c.in_ok-push.ensures.ok
+    (omega (
+      arith,
+      length-append s.log (chain ∷ []),
+      length-replay c.args.given.now [] s.learnt s.log c.requires.searches.derives,
+    ))
 
 pub returns-clause-short : goal.returns-clause-short
 returns-clause-short c =
     let s = c.args.self.now in
     let f = c.in_ok-_marks.field-0 in
     let chain : Chain = record { first = c.args.conflict; steps = f.steps } in
-    rw c.in_ok-push.ensures.ok (All-push (λ (x : Chain). length x.steps ≤ s.trail.vars) s.log chain c.requires.searches.steps (omega (arith, c.in_ok-_marks.ensures.resolved.few, c.known.ensures.few)))
+    rw c.in_ok-push.ensures.ok
+    (All-push (λ (x : Chain). length x.steps ≤ s.trail.vars) s.log chain c.requires.searches.steps
+    (omega (arith, c.in_ok-_marks.ensures.resolved.few, c.known.ensures.few)))

@@ -8,4 +8,5 @@ decreases-term_of l = goal.size-term_of l
 
 abbrev pub invariant-loop-i : goal.invariant-loop-i
 invariant-loop-i l =
-    l.terms ++ terms_at (drop l.i l.names) (givers l.self.rules (drop l.i l.child-items)) ≡ terms_at l.names (givers l.self.rules l.child-items)
+    l.terms ++ terms_at (drop l.i l.names) (givers l.self.rules (drop l.i l.child-items))
+    ≡ terms_at l.names (givers l.self.rules l.child-items)

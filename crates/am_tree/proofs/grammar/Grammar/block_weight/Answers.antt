@@ -18,10 +18,13 @@ returns-clause-value c =
     let n = length g.rules in
     let last = slice_index c.slot_weights.result.items in
     let inner = slice_index c.slot_weights-2.result.items in
-    let lasts : (m : ℕ) → m < n → last m ≡ weight_at g.rules c.args.w 0 m = rw c.as_slice-rules.ensures at c.slot_weights.ensures.each in
-    let inners : (m : ℕ) → m < n → inner m ≡ weight_at g.rules c.args.w 1 m = rw c.as_slice-rules.ensures at c.slot_weights-2.ensures.each in
+    let lasts : (m : ℕ) → m < n → last m ≡ weight_at g.rules c.args.w 0 m =
+    rw c.as_slice-rules.ensures at c.slot_weights.ensures.each in
+    let inners : (m : ℕ) → m < n → inner m ≡ weight_at g.rules c.args.w 1 m =
+    rw c.as_slice-rules.ensures at c.slot_weights-2.ensures.each in
     c.total.ensures
-    ∙ total-same g.rules n last inner (weight_at g.rules c.args.w 0) (weight_at g.rules c.args.w 1) lasts inners (inside g.rules g.starts g.depth g.well_formed) (g.depth - 1) g.starts
+    ∙ total-same g.rules n last inner (weight_at g.rules c.args.w 0) (weight_at g.rules c.args.w 1) lasts inners
+    (inside g.rules g.starts g.depth g.well_formed) (g.depth - 1) g.starts
     (recursion_from_All (λ m. m < n) g.starts g.well_formed.starts_in)
     ∙ sym (total-weights g.rules c.args.w (g.depth - 1) g.starts)
 
@@ -32,6 +35,8 @@ returns-clause-most c =
       arith,
       c.total.ensures,
       total-most g.rules (slice_index c.slot_weights.result.items) (slice_index c.slot_weights-2.result.items)
-          (index-most 2097152 c.slot_weights.result.items c.slot_weights.ensures.numbers.most) (index-most 2097152 c.slot_weights-2.result.items c.slot_weights-2.ensures.numbers.most) (g.depth - 1) g.starts,
+          (index-most 2097152 c.slot_weights.result.items c.slot_weights.ensures.numbers.most)
+          (index-most 2097152 c.slot_weights-2.result.items c.slot_weights-2.ensures.numbers.most) (g.depth - 1)
+          g.starts,
       total-ones g.rules (g.depth - 1) 1 0 g.starts,
     )

@@ -11,9 +11,12 @@ returns c =
     let k = length g.rules in
     let last = slice_index c.ones.result.items in
     let inner = slice_index c.ones-2.result.items in
-    let lasts : (n : ℕ) → n < k → last n ≡ 1 = λ n l. c.ones.ensures.each n 0 (omega (arith, l, c.ones.ensures.len, c.len-count.ensures)) in
-    let inners : (n : ℕ) → n < k → inner n ≡ 1 = λ n l. c.ones-2.ensures.each n 0 (omega (arith, l, c.ones-2.ensures.len, c.len-count.ensures)) in
+    let lasts : (n : ℕ) → n < k → last n ≡ 1 =
+    λ n l. c.ones.ensures.each n 0 (omega (arith, l, c.ones.ensures.len, c.len-count.ensures)) in
+    let inners : (n : ℕ) → n < k → inner n ≡ 1 =
+    λ n l. c.ones-2.ensures.each n 0 (omega (arith, l, c.ones-2.ensures.len, c.len-count.ensures)) in
     c.total.ensures
-    ∙ total-same g.rules k last inner (λ _. 1) (λ _. 1) lasts inners (inside g.rules g.starts g.depth g.well_formed) (g.depth - 1) g.starts
+    ∙ total-same g.rules k last inner (λ _. 1) (λ _. 1) lasts inners (inside g.rules g.starts g.depth g.well_formed)
+    (g.depth - 1) g.starts
     (recursion_from_All (λ n. n < k) g.starts g.well_formed.starts_in)
     ∙ sym (total-ones g.rules (g.depth - 1) 1 0 g.starts)

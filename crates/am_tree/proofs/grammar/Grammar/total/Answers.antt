@@ -17,7 +17,8 @@ use Rattle.am_tree.proofs.grammar.Grammar.total.Goals as goal
 pub loop-init : goal.loop-init
 loop-init c = record {
   len = c.requires.last.len;
-  sums = λ n l. sym (total-last c.args.self.now.rules (slice_index c.args.last.items) (slice_index c.args.inner.items) n);
+  sums = λ n l.
+      sym (total-last c.args.self.now.rules (slice_index c.args.last.items) (slice_index c.args.inner.items) n);
   most = c.requires.last.most;
 }
 
@@ -45,30 +46,43 @@ loop-preserved c =
     let sums = c.loop.sums.items in
     let b = c.loop.counter in
     let ins = inside g.rules g.starts g.depth g.well_formed in
-    let len : length c.sums_above-sums.result.items ≡ k = c.sums_above-sums.ensures.len ∙ ap length c.as_slice.ensures in
-    let each : (n : ℕ) → n < k → slice_index c.sums_above-sums.result.items n ≡ inner n + sum_by (λ (a : Argument). slice_index sums a.symbol) (shared_by 1 (get_or g.rules n [])) =
-    rw (c.as_slice.ensures, c.as_slice-in-loop.ensures.value, c.as_slice-in-loop-2.ensures.value) at c.sums_above-sums.ensures.each in
+    let len : length c.sums_above-sums.result.items ≡ k =
+    c.sums_above-sums.ensures.len ∙ ap length c.as_slice.ensures in
+    let each : (n : ℕ) → n < k
+    → slice_index c.sums_above-sums.result.items n
+    ≡ inner n + sum_by (λ (a : Argument). slice_index sums a.symbol) (shared_by 1 (get_or g.rules n [])) =
+    rw (c.as_slice.ensures, c.as_slice-in-loop.ensures.value, c.as_slice-in-loop-2.ensures.value)
+    at c.sums_above-sums.ensures.each in
     record {
       len = len;
       sums = λ n l.
           each n l
-          ∙ ap (λ (x : ℕ). inner n + x) (children-same k (slice_index sums) (λ m. total g.rules last inner b (m ∷ [])) (shared_by 1 (get_or g.rules n [])) c.loop.invariant.sums (shared-inside k g.rules ins n))
+          ∙ ap (λ (x : ℕ). inner n + x)
+          (children-same k (slice_index sums) (λ m. total g.rules last inner b (m ∷ []))
+          (shared_by 1 (get_or g.rules n [])) c.loop.invariant.sums (shared-inside k g.rules ins n))
           ∙ sym (total-one g.rules last inner b n);
       most = λ n d l.
           let under : n < k = omega (arith, l, len) in
           let ps = get_or g.rules n [] in
-          let kids = few-children ps (recursion_from_All (λ (p : Production). length (arguments p) ≤ 3) ps (each-short g.well_formed n [] under)) (each-few g.well_formed n [] under) in
+          let kids =
+          few-children ps
+          (recursion_from_All (λ (p : Production). length (arguments p) ≤ 3) ps
+          (each-short g.well_formed n [] under))
+          (each-few g.well_formed n [] under) in
           omega (
             arith,
             get_or_default c.sums_above-sums.result.items n d 0 l,
             each n under,
-            bound-next (inner n) (λ (a : Argument). slice_index sums a.symbol) (shared_by 1 ps) b (index-most 2097152 c.args.inner.items c.requires.inner.most n) (λ a. index-most (bound b) sums c.loop.invariant.most a.symbol) kids,
+            bound-next (inner n) (λ (a : Argument). slice_index sums a.symbol) (shared_by 1 ps) b
+                (index-most 2097152 c.args.inner.items c.requires.inner.most n)
+                (λ a. index-most (bound b) sums c.loop.invariant.most a.symbol) kids,
           );
     }
 
 pub bounds-deref-n : goal.bounds-deref-n
 bounds-deref-n c =
-    let some : All (λ n. n < length c.args.self.now.rules) c.as_slice-n-items.result.now = rw c.as_slice-n-items.ensures c.args.self.now.well_formed.starts_in in
+    let some : All (λ n. n < length c.args.self.now.rules) c.as_slice-n-items.result.now =
+    rw c.as_slice-n-items.ensures c.args.self.now.well_formed.starts_in in
     omega (arith, some c.loop-n.n-index 0 c.loop-n-test.true, ap length c.deref.ensures.0, c.loop.invariant.len)
 
 pub overflow_add-total : goal.overflow_add-total
@@ -77,7 +91,16 @@ overflow_add-total c =
     let few : c.loop.counter ≤ 4 = omega (arith, c.loop.auto.counter-end, c.args.self.now.well_formed.most_depth) in
     let next = index-most (bound c.loop.counter) c.loop.sums.items c.loop.invariant.most n in
     let read = ap (λ (xs : List ℕ). get_or xs n 0) c.deref.ensures.0 in
-    omega (arith, next, read, bound-most c.loop.counter few, c.loop-n.invariant.most, c.loop-n-test.true, ap length c.as_slice-n-items.ensures, c.args.self.now.well_formed.few_starts)
+    omega (
+      arith,
+      next,
+      read,
+      bound-most c.loop.counter few,
+      c.loop-n.invariant.most,
+      c.loop-n-test.true,
+      ap length c.as_slice-n-items.ensures,
+      c.args.self.now.well_formed.few_starts,
+    )
 
 pub loop-n-preserved : goal.loop-n-preserved
 loop-n-preserved c =
@@ -86,7 +109,14 @@ loop-n-preserved c =
     let next = index-most (bound c.loop.counter) c.loop.sums.items c.loop.invariant.most n in
     let read = ap (λ (xs : List ℕ). get_or xs n 0) c.deref.ensures.0 in
     record {
-      value = omega (arith, read, c.loop-n.invariant.value, sum_by_more (slice_index c.loop.sums.items) c.as_slice-n-items.result.now c.loop-n.n-index 0 c.loop-n-test.true);
+      value =
+          omega (
+            arith,
+            read,
+            c.loop-n.invariant.value,
+            sum_by_more (slice_index c.loop.sums.items) c.as_slice-n-items.result.now c.loop-n.n-index 0
+                c.loop-n-test.true,
+          );
       most = omega (arith, next, read, bound-most c.loop.counter few, c.loop-n.invariant.most);
     }
 
@@ -98,9 +128,13 @@ returns c =
     let inner = slice_index c.args.inner.items in
     let b = c.loop.counter in
     let deep : b ≡ g.depth - 1 = omega (arith, c.loop-test.false, c.loop.auto.counter-end) in
-    let whole = ap (sum_by (slice_index c.loop.sums.items)) (take_all c.loop-n.n-index c.as_slice-n-items.result.now c.loop-n-test.false ∙ c.as_slice-n-items.ensures) in
+    let whole =
+    ap (sum_by (slice_index c.loop.sums.items))
+    (take_all c.loop-n.n-index c.as_slice-n-items.result.now c.loop-n-test.false
+    ∙ c.as_slice-n-items.ensures) in
     c.loop-n.invariant.value
     ∙ whole
-    ∙ sum-same k (slice_index c.loop.sums.items) (λ n. total g.rules last inner b (n ∷ [])) g.starts c.loop.invariant.sums (recursion_from_All (λ n. n < k) g.starts g.well_formed.starts_in)
+    ∙ sum-same k (slice_index c.loop.sums.items) (λ n. total g.rules last inner b (n ∷ [])) g.starts
+    c.loop.invariant.sums (recursion_from_All (λ n. n < k) g.starts g.well_formed.starts_in)
     ∙ sym (total-sum g.rules last inner b g.starts)
     ∙ ap (λ (d : ℕ). total g.rules last inner d g.starts) deep

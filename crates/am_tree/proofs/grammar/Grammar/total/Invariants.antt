@@ -6,7 +6,9 @@ use Rattle.am_tree.proofs.grammar.Grammar.total.Given as goal
 abbrev pub invariant-loop : goal.invariant-loop
 invariant-loop l = record {
   len : length l.sums.items ≡ length l.self.rules;
-  sums : (n : ℕ) → n < length l.self.rules → slice_index l.sums.items n ≡ total l.self.rules (slice_index l.fn.last.items) (slice_index l.inner.items) l.counter (n ∷ []);
+  sums : (n : ℕ) → n < length l.self.rules
+      → slice_index l.sums.items n
+      ≡ total l.self.rules (slice_index l.fn.last.items) (slice_index l.inner.items) l.counter (n ∷ []);
   most : All (λ x. x ≤ bound l.counter) l.sums.items;
 }
 

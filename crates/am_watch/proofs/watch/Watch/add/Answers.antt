@@ -12,7 +12,7 @@ returns-clause-ok c =
       fresh = c.add.new.self.fresh.items;
     } in
     rw (← c.self.view_is) (added c.add.result old new c.args.clause c.add.ensures.lists c.add.ensures.pairs
-    c.add.ensures.fresh (rw (← c.self.view_is) at c.requires) c.args.lits.now)
+    c.add.ensures.fresh c.args.lits.now)
 
 pub returns-clause-err : goal.returns-clause-err
 returns-clause-err c =

@@ -8,10 +8,6 @@ pub loop-i-init : goal.loop-i-init
 loop-i-init c = rw (c.new-2.ensures.items, c.new-3.ensures.items)
     (empty_holds c.in_ok-new.field-0 c.args.formula.now.vars c.in_ok-new.ensures.len c.in_ok-new.ensures.empty)
 
-pub add-requires : goal.add-requires
-add-requires c = number_next c.loop-i.watch.pairs.items c.args.formula.now.clauses c.loop-i.i c.loop-i.invariant.numbers
-    (omega arith)
-
 pub loop-i-preserved : goal.loop-i-preserved
 loop-i-preserved c =
     let clauses = c.args.formula.now.clauses in

@@ -8,10 +8,12 @@ use Rattle.amurth.proofs.command.CommandWords.command.Goals as goal
 pub returns-in-1 : goal.returns-in-1
 returns-in-1 c =
     let words = one_word c.args.self.now c.get.result.now (sym c.len.ensures ∙ c.in-1.is) c.get.ensures in
-    subst (λ ws. MatchOption c.named.result ((d : Command) → ¬ IsCommand ws d) (IsCommand ws)) (sym words) c.named.ensures
+    subst (λ ws. MatchOption c.named.result ((d : Command) → ¬ IsCommand ws d) (IsCommand ws)) (sym words)
+    c.named.ensures
 
 pub returns-in-2 : goal.returns-in-2
 returns-in-2 c =
     let words = two_words c.args.self.now c.get-in-2.result.now c.get-in-2-2.result.now (sym c.len.ensures ∙ c.in-2.is)
     c.get-in-2.ensures c.get-in-2-2.ensures in
-    subst (λ ws. MatchOption c.numbered.result ((d : Command) → ¬ IsCommand ws d) (IsCommand ws)) (sym words) c.numbered.ensures
+    subst (λ ws. MatchOption c.numbered.result ((d : Command) → ¬ IsCommand ws d) (IsCommand ws)) (sym words)
+    c.numbered.ensures

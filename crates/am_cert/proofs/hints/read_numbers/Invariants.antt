@@ -1,0 +1,12 @@
+use Rattle.std.proofs.Common.{◌≡◌, [], length}
+use Rattle.am_syntax.specs.Pieces.{repeat_from}
+use Rattle.am_cert.specs.Grammar.{code, is_number_next}
+use Rattle.am_cert.proofs.hints.read_numbers.Given as goal
+
+abbrev pub decreases-numbers : goal.decreases-numbers
+decreases-numbers l = length l.text.tokens
+
+abbrev pub invariant-numbers : goal.invariant-numbers
+invariant-numbers l =
+    repeat_from is_number_next (λ _. code.read) l.numbers l.text ≡
+    repeat_from is_number_next (λ _. code.read) [] l.initial.text

@@ -1,0 +1,13 @@
+pub mod NormalTests
+pub mod Truths
+pub mod Statuses
+pub mod Sound
+pub mod Listed
+pub mod Laws
+pub mod Apart
+pub mod Backwards
+pub mod CutChains
+pub mod Earlier
+pub mod Renumbered
+pub mod Translating
+pub mod Growing

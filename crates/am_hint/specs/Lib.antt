@@ -1,0 +1,5 @@
+pub mod inside
+pub mod Hints
+pub mod Hinted
+pub mod HintReplay
+pub mod HintLaws
