@@ -1,3 +1,3 @@
 """A workbench for authors of abstract transformers, around the verified synthesiser Amurth."""
 
-__version__ = "1.0"
+__version__ = "1.1"

@@ -2,13 +2,15 @@
 
 from __future__ import annotations
 
+import time
 from dataclasses import dataclass
 from pathlib import Path
 from typing import Callable
 
 from .certificates import Certificate, read_certificate
+from .display import size_text
 from .problem import Problem
-from .program import Program
+from .program import Program, Trouble
 from .source import LabError
 
 #: The most bytes of a text that the program reads.
@@ -40,6 +42,14 @@ class Asker:
 
     def ask(self, problem: Problem, name: str) -> Answer:
         """The accepted answer to a problem. The certificate is kept under a name."""
+        started = time.monotonic()
+        try:
+            return self._asked(problem, name)
+        except LabError as error:
+            error.seconds = time.monotonic() - started
+            raise
+
+    def _asked(self, problem: Problem, name: str) -> Answer:
         self.tell(f"{name}: synth")
         self.folder.mkdir(parents=True, exist_ok=True)
         (self.folder / f"{name}.amurth").write_text(problem.text())
@@ -48,11 +58,11 @@ class Asker:
         self.tell(f"{name}: check")
         is_accepted, line = self.program.accepts(written.output)
         if line.startswith("refused Long "):
-            raise LabError(
+            raise Trouble(
+                "limit",
                 f"the certificate has {len(written.output):,} bytes, and `check` reads at most {LONGEST:,}",
-                None,
-                "",
                 "nothing is said of the transformer; try a smaller width",
+                amount=size_text(len(written.output)),
             )
         if not is_accepted:
             raise LabError(

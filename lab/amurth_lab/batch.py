@@ -15,12 +15,14 @@ from typing import Sequence, TextIO
 
 from .parser import read_file
 from .program import Program
-from .records import Job, Record, key_of, run_job, told_of
+from .records import Job, Record, failed, key_of, run_job, told_of
 from .source import LabError
 from .syntax import LabFile
 
 SUFFIX = ".lab"
 QUICK_WIDTH = 3
+INTERRUPTED = "interrupted"
+KILLED = "a worker was killed, perhaps for want of memory: run fewer at once by `-j`"
 
 
 @dataclass(frozen=True)
@@ -39,18 +41,26 @@ class Request:
 
 @dataclass
 class Done:
-    """What a run found, in the order of files and widths; `kept` are those of earlier runs."""
+    """What a run found, in the order of files and widths; `kept` are those of earlier runs, `left` those to come.
+
+    `end` says why a run ended before all was done.
+    """
 
     records: list[Record] = field(default_factory=list)
     kept: int = 0
     left: int = 0
     seconds: float = 0.0
-    is_interrupted: bool = False
+    end: str = ""
+
+    @property
+    def is_interrupted(self) -> bool:
+        """Whether it was interrupted."""
+        return self.end == INTERRUPTED
 
     @property
     def is_as_expected(self) -> bool:
-        """Whether all was done, and all expectations hold."""
-        return not self.left and all(record["is_as_expected"] for record in self.records)
+        """Whether nothing ended the run, and all expectations hold."""
+        return not self.end and all(record["is_as_expected"] for record in self.records)
 
 
 def sources(paths: Sequence[Path]) -> list[tuple[Path, str]]:
@@ -88,14 +98,14 @@ def run(request: Request, shown: TextIO | None = None) -> Done:
     done = Done(records=mistakes)
     found: dict[Job, Record] = {}
     for job in jobs:
-        kept = job.kept()
+        kept = job.kept(request.is_kept_only)
         if kept is not None and (not request.is_recheck or _is_accepted(request.program, kept)):
             found[job] = kept
     done.kept = len(found)
     waiting = [job for job in jobs if job not in found]
     if not request.is_kept_only:
-        done.is_interrupted = not _work(waiting, request.jobs, found, Progress(shown or sys.stderr, len(waiting)))
-        done.left = len(jobs) - len(found)
+        done.end = _work(waiting, request.jobs, found, Progress(shown or sys.stderr, len(waiting)))
+    done.left = len(jobs) - len(found)
     done.records += [found[job] for job in jobs if job in found]
     done.seconds = time.monotonic() - started
     return done
@@ -135,10 +145,13 @@ def _start_worker() -> None:
 
 
 def _run_or_end(job: Job) -> Record:
+    """The record of a job. A failure of the workbench leaves the other jobs."""
     try:
         return run_job(job)
     except SystemExit:
         os._exit(1)
+    except Exception as error:  # pylint: disable=broad-exception-caught
+        return failed(job, error)
 
 
 def _end_workers() -> None:
@@ -151,10 +164,10 @@ def _end_workers() -> None:
             worker.kill()
 
 
-def _work(waiting: list[Job], workers: int, found: dict[Job, Record], progress: "Progress") -> bool:
-    """Runs jobs, the narrow ones first. False where it was interrupted; what is done then is kept."""
+def _work(waiting: list[Job], workers: int, found: dict[Job, Record], progress: "Progress") -> str:
+    """Runs jobs, the narrow ones first. Answers why it ended early, or nothing; what is done then is kept."""
     if not waiting:
-        return True
+        return ""
     context = multiprocessing.get_context("spawn")
     executor = ProcessPoolExecutor(min(workers, len(waiting)), context, _start_worker)
     try:
@@ -162,17 +175,14 @@ def _work(waiting: list[Job], workers: int, found: dict[Job, Record], progress: 
         for future in as_completed(asked):
             found[asked[future]] = future.result()
             progress.done(found[asked[future]])
-    except BrokenProcessPool as error:
-        advice = "what is done is kept, and the same line takes it up; run fewer at once by `-j`"
-        raise LabError("a worker was killed, perhaps for want of memory", None, "", advice) from error
-    except KeyboardInterrupt:
+    except (BrokenProcessPool, KeyboardInterrupt) as error:
         executor.shutdown(wait=False, cancel_futures=True)
         _end_workers()
         progress.end()
-        return False
+        return INTERRUPTED if isinstance(error, KeyboardInterrupt) else KILLED
     executor.shutdown()
     progress.end()
-    return True
+    return ""
 
 
 class Progress:

@@ -29,7 +29,7 @@ class Turn:
 
 @dataclass
 class Certificate:
-    """A certificate; of each log, the number of derived clauses is kept."""
+    """A certificate of any version; of each log, with chains or with hints, the number of derived clauses is kept."""
 
     version: int
     problem: Problem
@@ -198,7 +198,8 @@ def _turn(words: _Words, count: int) -> Turn:
 
 
 def _logs(text: str) -> dict[str, int]:
-    """The logs' names, each with the number of its derived clauses. Logs may be long, and aren't cut into words."""
+    """The logs' names, each with the number of its derived clauses, which a chain or a hint begins. Logs may be long, and
+    aren't cut into words."""
     starts = list(_LOG.finditer(text))
     ends = [start.start() for start in starts[1:]] + [len(text)]
     derived = ("chain", "clause")

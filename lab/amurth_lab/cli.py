@@ -31,6 +31,8 @@ from .words import WIDTHS
 FAILED = 1
 MISTAKE = 2
 INTERRUPTED = 130
+#: The seconds after which `run` ends a run of the program.
+LIMIT = 300.0
 
 
 def main(argv: Sequence[str] | None = None) -> int:
@@ -100,7 +102,7 @@ def _add_run(commands: "argparse._SubParsersAction[argparse.ArgumentParser]") ->
     run_.add_argument("--html", type=Path, metavar="FILE", help="write a page that stands alone")
     run_.add_argument("--markdown", type=Path, metavar="FILE", help="put the table between the marks of a document")
     run_.add_argument("--out", type=Path, default=Path("lab-out"), metavar="DIR", help="where all is kept (lab-out)")
-    add_program(run_)
+    add_program(run_, LIMIT)
 
 
 def _add_certificate(parser: argparse.ArgumentParser) -> None:
@@ -131,12 +133,16 @@ def _add_file(parser: argparse.ArgumentParser) -> None:
     )
 
 
-def add_program(parser: argparse.ArgumentParser) -> None:
+def add_program(parser: argparse.ArgumentParser, limit: float | None = None) -> None:
     """Adds the options that say which program is run, and for how long."""
+    shown = "" if limit is None else f" ({limit:g})"
     parser.add_argument(
         "--program", metavar="PATH", help="the program `amurth`; else $AMURTH, beside the repository, or the path"
     )
-    parser.add_argument("--timeout", type=float, metavar="SECONDS", help="end a run of the program after this time")
+    parser.add_argument(
+        "--timeout", type=float, default=limit, metavar="SECONDS",
+        help=f"end a run of the program after this time{shown}",
+    )  # fmt: skip
 
 
 def asked_widths(text: str | None, file: LabFile) -> tuple[int, ...]:
@@ -334,6 +340,8 @@ def _run(options: argparse.Namespace) -> int:
         options.quick, options.kept, options.recheck,
     )  # fmt: skip
     done = run(request)
+    if options.kept and not done.records:
+        raise LabError(f"{options.out} keeps nothing of these files, widths and program, so there is nothing to show")
     print("\n".join(summary(done)), flush=True)
     if options.json is not None:
         options.json.write_text(json.dumps(done.records, indent=1) + "\n")
@@ -341,7 +349,7 @@ def _run(options: argparse.Namespace) -> int:
         options.html.write_text(page(done))
     if options.markdown is not None:
         write_markdown(options.markdown, done)
-    if done.is_interrupted:
-        print("interrupted; what is done is kept, and the same line takes it up", file=sys.stderr)
-        return INTERRUPTED
+    if done.end:
+        print(f"{done.end}; what is done is kept, and the same line takes it up", file=sys.stderr)
+        return INTERRUPTED if done.is_interrupted else FAILED
     return 0 if done.is_as_expected else FAILED

@@ -29,6 +29,7 @@ class Judgement:
     file: LabFile
     width: int
     setting: Setting | None = None
+    expects_elsewhere: bool = False
     soundness: dict[str, Soundness | LabError] = field(default_factory=dict)
     solved: Answer | LabError | None = None
     standings: dict[str, Standing | LabError] = field(default_factory=dict)
@@ -36,12 +37,19 @@ class Judgement:
 
     @property
     def is_as_expected(self) -> bool:
-        """Whether each expectation holds; without any, whether each candidate is sound or the grammar has an answer."""
+        """Whether each expectation holds. Without any, whether each candidate is sound or the grammar has an answer.
+
+        Where all of a file's expectations are for other widths, an answer may be missing, and none may be unsound.
+        """
         if self.outcomes:
             return all(outcome.holds for outcome in self.outcomes)
-        if not self.file.candidates:
-            return isinstance(self.solved, Answer)
-        return all(isinstance(found, Soundness) and found.is_sound for found in self.soundness.values())
+        asked = self.soundness.values() if self.file.candidates else [self.solved]
+        return all(self._is_good(found) for found in asked)
+
+    def _is_good(self, found: Soundness | Answer | LabError | None) -> bool:
+        if isinstance(found, LabError):
+            return self.expects_elsewhere
+        return found.is_sound if isinstance(found, Soundness) else found is not None
 
 
 def stem(file: LabFile, width: int) -> str:
@@ -55,6 +63,7 @@ def judge(
     """Judges a file at a width. Mistakes of the source are raised, and troubles with one question are kept."""
     out = Judgement(file, width, Setting(file, width))
     stated = [e for e in file.expectations if e.holds_at(width)]
+    out.expects_elsewhere = bool(file.expectations) and not stated
     for candidate in file.candidates:
         if names is None or candidate.name in names:
             out.soundness[candidate.name] = _sound(out, candidate.name, asker)

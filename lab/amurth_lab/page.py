@@ -70,14 +70,14 @@ def _failed(records: Sequence[Record]) -> list[str]:
 
 def _row(row: Row) -> str:
     name = escape(row.name.rpartition("/")[2])
-    words = " ".join(_word(text) for text in row.verdicts.split(", ") if text)
+    words = " ".join(_word(text) for text in row.verdicts)
     head = f"<summary><code>{name}</code><span>{escape(row.candidate)}</span><span>{words}</span></summary>"
     return f'<details>{head}<div class="inside">{"".join(_inside(row))}</div></details>'
 
 
 def _word(text: str) -> str:
     kind = text.split()[0]
-    shown = "open" if kind in TROUBLES else kind if not kind.isdigit() else "open"
+    shown = "open" if kind in TROUBLES else kind
     return f'<span class="word {escape(shown)}">{escape(text)}</span>'
 
 

@@ -60,11 +60,15 @@ class Refusal(LabError):
 
 
 class Trouble(LabError):
-    """A run of the program that ended without an answer. `kind` is a short word for tables."""
+    """A run of the program that ended without an answer.
 
-    def __init__(self, kind: str, message: str, *notes: str) -> None:
+    For tables, `kind` is a short word, and `amount` what was spent beside time.
+    """
+
+    def __init__(self, kind: str, message: str, *notes: str, amount: str = "") -> None:
         super().__init__(message, None, "", *notes)
         self.kind = kind
+        self.amount = amount
 
 
 @dataclass(frozen=True)
@@ -131,12 +135,18 @@ def trouble(command: str, written: Written, problem: Problem | None) -> Trouble:
     """Says what an exit status without an answer means, and what to do."""
     status = written.status
     if status == 7 and problem is not None:
-        return Trouble("turns", f"the {problem.turns} turns of the problem are spent", "raise `turns`, at most 4096")
+        return Trouble(
+            "turns",
+            f"the {problem.turns} turns of the problem are spent",
+            "raise `turns`, at most 4096",
+            amount=f"{problem.turns:,}",
+        )
     if status == 8 and problem is not None:
         return Trouble(
             "conflicts",
             f"the {problem.conflicts:,} conflicts of one query are spent",
             "raise `conflicts`, at most 1000000, ask at a smaller width, or make the grammar smaller",
+            amount=f"{problem.conflicts:,}",
         )
     if status == 5:
         return Trouble(

@@ -4,6 +4,7 @@ from __future__ import annotations
 
 import hashlib
 import json
+import os
 import resource
 import time
 from dataclasses import dataclass, field
@@ -26,6 +27,7 @@ Record = dict[str, Any]
 OPTIMAL_WIDTH = 4
 PICTURE_WIDTH = 5
 MOST_OPTIMAL = 70_000
+SELF, CHILDREN = resource.RUSAGE_SELF, resource.RUSAGE_CHILDREN
 
 
 @dataclass(frozen=True)
@@ -46,8 +48,11 @@ class Job:
         """Where the record is kept."""
         return self.out / f"{self.name}-w{self.width}.json"
 
-    def kept(self) -> Record | None:
-        """The record of an earlier run, where neither the expanded text nor the program has changed since."""
+    def kept(self, is_last: bool = False) -> Record | None:
+        """The record of an earlier run, where neither the expanded text nor the program has changed since.
+
+        One that was ended for want of time serves where no more time is given now, or where nothing is run (`is_last`).
+        """
         try:
             found = json.loads(self.record_path.read_text())
         except (OSError, ValueError):
@@ -56,7 +61,8 @@ class Job:
             return None
         was_ended = any(part["verdict"] == "time" for part in parts(found))
         limit = found.get("timeout")
-        if was_ended and limit is not None and (self.timeout is None or self.timeout > limit):
+        has_more_time = limit is not None and (self.timeout is None or self.timeout > limit)
+        if was_ended and has_more_time and not is_last:
             return None
         for outcome, place in zip(found.get("outcomes", []), self.told.get("places", [])):
             outcome["place"] = place
@@ -96,7 +102,7 @@ def key_of(file: LabFile, width: int, digest: str) -> str:
 
 def run_job(job: Job) -> Record:
     """Judges a file at a width, and keeps the record."""
-    started = time.monotonic()
+    started, work = time.monotonic(), _work()
     record: Record = {
         "name": job.name,
         "path": str(job.path),
@@ -111,12 +117,24 @@ def run_job(job: Job) -> Record:
     except LabError as error:
         record |= {"error": error.render(), "is_as_expected": False}
     record["seconds"] = time.monotonic() - started
-    record["peak"] = resource.getrusage(resource.RUSAGE_CHILDREN).ru_maxrss * 1024
+    record["work"] = _work() - work
+    record["peak"] = 1024 * max(resource.getrusage(who).ru_maxrss for who in (SELF, CHILDREN))
     job.record_path.parent.mkdir(parents=True, exist_ok=True)
     part = job.record_path.with_suffix(".part")
     part.write_text(json.dumps(record, indent=1))
     part.replace(job.record_path)
     return record
+
+
+def failed(job: Job, error: Exception) -> Record:
+    """What stands in the place of a record where the workbench itself failed. It isn't kept."""
+    told: Record = {"name": job.name, "path": str(job.path), "width": job.width, "seconds": 0.0}
+    return told | {"error": f"error: the workbench failed: {error!r}", "is_as_expected": False}
+
+
+def _work() -> float:
+    """The seconds of processor time of this process and of its programs that have ended."""
+    return sum(os.times()[:4])
 
 
 def _record(found: Judgement) -> Record:
@@ -190,5 +208,6 @@ def _answer(answer: Answer) -> Record:
 
 
 def _trouble(error: LabError) -> Record:
-    kind = error.kind if isinstance(error, Trouble) else "limit"
-    return {"verdict": kind, "message": error.diagnostic.message, "lines": error.render().split("\n")}
+    kind, amount = (error.kind, error.amount) if isinstance(error, Trouble) else ("limit", "")
+    spent = {} if error.seconds is None else {"spent": error.seconds, "amount": amount}
+    return {"verdict": kind, "message": error.diagnostic.message, "lines": error.render().split("\n"), **spent}

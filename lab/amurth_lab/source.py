@@ -80,7 +80,12 @@ class Diagnostic:
 
 
 class LabError(Exception):
-    """A mistake of the source, of the command line or of the program that was run."""
+    """A mistake of the source, of the command line or of the program that was run.
+
+    `seconds` is the time that a question took before it was raised; none where nothing was asked.
+    """
+
+    seconds: float | None = None
 
     def __init__(self, message: str, span: Span | None = None, label: str = "", *notes: str) -> None:
         super().__init__(message)

@@ -4,7 +4,7 @@ from __future__ import annotations
 
 from dataclasses import dataclass
 from pathlib import Path
-from typing import Iterable, Sequence
+from typing import Iterable, Mapping, Sequence
 
 from .batch import Done
 from .display import count, seconds_text, size_text
@@ -13,6 +13,9 @@ from .source import LabError
 
 START = "<!-- table -->"
 END = "<!-- end of table -->"
+HEAD = ("file", "candidate", "operation", "domain", "sound", "best in its grammar", "optimal at 4")
+NUMBERS = ("turns", "time", "bytes")
+STANDINGS = {"best": "yes", "closer": "no"}
 TROUBLES = ("time", "conflicts", "turns", "memory", "killed", "program", "limit")
 
 
@@ -26,16 +29,38 @@ class Row:
     parts: dict[int, Record]
 
     @property
-    def verdicts(self) -> str:
-        """The verdicts with their widths, as `best 2-7, time 8`."""
-        words = [(width, verdict(part)) for width, part in sorted(self.parts.items())]
-        return ", ".join(f"{word} {_range(widths)}" for word, widths in _grouped(words))
+    def verdicts(self) -> list[str]:
+        """The verdicts with their widths, as `best 2-7` and `time 8 (5 min 0 s)`."""
+        return _phrases({width: (verdict(part), part) for width, part in self.parts.items()})
+
+    @property
+    def soundness(self) -> list[str]:
+        """The verdicts without regard to the grammar, as `sound 2-8`."""
+        return _phrases({width: (str(part["verdict"]), part) for width, part in self.parts.items()})
+
+    @property
+    def standings(self) -> list[str]:
+        """Where the sound candidate was compared with the grammar's best, whether it is best itself, as `yes 2-8`."""
+        found: dict[int, tuple[str, Record]] = {}
+        for record in self.records:
+            part, grammar = self.parts[record["width"]], record.get("grammar") or {}
+            if "standing" in part:
+                found[record["width"]] = (STANDINGS.get(part["standing"], "open"), {})
+            elif part["verdict"] == "sound" and grammar.get("verdict") in TROUBLES:
+                found[record["width"]] = (grammar["verdict"], grammar)
+        return _phrases(found)
 
     @property
     def widest(self) -> Record:
         """The part of the greatest width that finished."""
         finished = [part for _, part in sorted(self.parts.items()) if "certificate" in part]
         return finished[-1] if finished else {}
+
+    @property
+    def measured(self) -> Record:
+        """The part that numbers are told of: the grammar's where the candidate was compared with it, else its own."""
+        compared = [record for record in self.records if "standing" in self.parts[record["width"]]]
+        return compared[-1]["grammar"] if compared else self.widest
 
     @property
     def optimal(self) -> str:
@@ -51,6 +76,19 @@ def verdict(part: Record) -> str:
     if part["verdict"] == "sound" and part.get("standing") == "best":
         return "best"
     return str(part["verdict"])
+
+
+def _phrases(found: Mapping[int, tuple[str, Record]]) -> list[str]:
+    """Words with the widths that they hold at, and what was spent at the widest where there is no answer."""
+    grouped = _grouped([(width, word) for width, (word, _) in sorted(found.items())])
+    return [f"{word} {_range(widths)}{_spent(found[widths[-1]][1])}" for word, widths in grouped]
+
+
+def _spent(part: Record) -> str:
+    if "spent" not in part:
+        return ""
+    amount = f"{part['amount']} in " if part["amount"] else ""
+    return f" ({amount}{seconds_text(part['spent'])})"
 
 
 def _grouped(words: Sequence[tuple[int, str]]) -> list[tuple[str, list[int]]]:
@@ -87,7 +125,7 @@ def rows(records: Iterable[Record]) -> list[Row]:
 
 def summary(done: Done) -> list[str]:
     """The table for the terminal, what didn't hold, and the numbers."""
-    out = [f"{row.name:<40} {row.candidate:<20} {row.verdicts}" for row in rows(done.records)]
+    out = [f"{row.name:<40} {row.candidate:<20} {', '.join(row.verdicts)}" for row in rows(done.records)]
     out += failures(done.records)
     good = sum(1 for record in done.records if record["is_as_expected"])
     total = f"{count(good, 'file')} at a width as expected, {len(done.records) - good} not"
@@ -130,33 +168,27 @@ def _shown(record: Record, text: str) -> list[str]:
 
 def markdown(done: Done) -> list[str]:
     """The table in Markdown, with the numbers below."""
-    out = [
-        "| file | candidate | operation | domain | widths | optimal at 4 | turns | time | bytes |",
-        "|---|---|---|---|---|---|---|---|---|",
-    ]
-    for row in rows(done.records):
-        first, last = row.records[0], row.widest
-        numbers = (
-            [f"{last['turns']}", seconds_text(last["seconds"]), size_text(last["bytes"])] if last else ["", "", ""]
-        )
-        operation = first["operation"].replace("|", "\\|")
-        cells = [
-            f"`{row.name}`",
-            row.candidate,
-            f"`{operation}`",
-            first["domain"],
-            row.verdicts,
-            row.optimal,
-            *numbers,
-        ]
-        out.append("| " + " | ".join(cells) + " |")
-    work = sum(record.get("seconds", 0.0) for record in done.records)
+    head = (*HEAD, *NUMBERS)
+    out = ["| " + " | ".join(head) + " |", "|---" * len(head) + "|"]
+    out += ["| " + " | ".join(_cells(row)) + " |" for row in rows(done.records)]
+    work = sum(record.get("work", 0.0) for record in done.records)
     peak = max((record.get("peak", 0) for record in done.records), default=0)
     good = sum(1 for record in done.records if record["is_as_expected"])
-    verdicts = f"{good:,} of {len(done.records):,} files at a width are as expected."
+    files = count(len({record["name"] for record in done.records}), "file")
+    verdicts = f"{files}, {len(done.records):,} with their widths, of which {good:,} are as expected"
+    left = f", and {done.left:,} are left" if done.left else ""
     used = f"All took {seconds_text(work)} of one processor; no process had more than {peak / 1e6:,.0f} MB."
-    out += ["", f"{verdicts} {used}"]
-    return out
+    return [*out, "", f"{verdicts}{left}. {used}"]
+
+
+def _cells(row: Row) -> list[str]:
+    first, last = row.records[0], row.measured
+    numbers = [""] * len(NUMBERS)
+    if last:
+        numbers = [f"{last['turns']:,}", seconds_text(last["seconds"]), size_text(last["bytes"])]
+    operation = first["operation"].replace("|", "\\|")
+    names = [f"`{row.name}`", row.candidate, f"`{operation}`", first["domain"]]
+    return [*names, ", ".join(row.soundness), ", ".join(row.standings), row.optimal, *numbers]
 
 
 def write_markdown(path: Path, done: Done) -> None:

@@ -1,7 +1,8 @@
 """Stands for the core program where a test needs a certain end of it: `fake_amurth.py BEHAVIOUR COMMAND`.
 
 `good` answers that the first leaf of each start is best; `slow` does so after half a second; `unsure` has each
-certificate rejected; a number ends with this status; `killed` is killed; `refusing` refuses the tenth byte.
+certificate rejected; a number ends with this status; `killed` is killed, and `killing` kills who runs it;
+`refusing` refuses the tenth byte.
 """
 
 import os
@@ -25,8 +26,8 @@ def main() -> int:
     text = sys.stdin.read()
     if behaviour.isdigit():
         return int(behaviour)
-    if behaviour == "killed":
-        os.kill(os.getpid(), signal.SIGKILL)
+    if behaviour in ("killed", "killing"):
+        os.kill(os.getpid() if behaviour == "killed" else os.getppid(), signal.SIGKILL)
     if behaviour == "refusing":
         print("refused Number 15")
         return 6

@@ -100,7 +100,34 @@ class Run(WithFolder):
         text = document.read_text()
         self.assertTrue(text.startswith("Before\n<!-- table -->\n| file |"), text)
         self.assertTrue(text.endswith("<!-- end of table -->\nAfter\n"), text)
-        self.assertIn("| `deep/one` | careful | `add(x, y) = x + y` | u-interval | sound 2-3 |", text)
+        self.assertIn("| `deep/one` | careful | `add(x, y) = x + y` | u-interval | sound 2-3 |  |", text)
+
+    def test_what_does_not_finish_stands_in_the_table_with_what_was_spent(self) -> None:
+        document = self.folder / "table.md"
+        self.run_all("8", "--width", "2", "--markdown", document)
+        self.assertEqual(len(re.findall(r"conflicts 2 \(200,000 in [\d.]+ s\)", document.read_text())), 6)
+        (self.files / "one.lab").write_text(SOUND + "expect sound careful at 2\n")
+        status, out, _ = self.run_all("slow", "--timeout", "0.1", "-j", "3")
+        self.assertEqual(status, 1)
+        self.assertIn("1 file at a width as expected, 5 not", out)
+        out = self.run_all("slow", "--kept", "--markdown", document)[1]
+        self.assertIn("6 of them kept", out)
+        self.assertEqual(len(re.findall(r"time 2-3 \([\d.]+ s\)", document.read_text())), 6)
+
+    def test_where_nothing_is_kept_the_table_stays(self) -> None:
+        document = self.folder / "table.md"
+        document.write_text("<!-- table -->\nold\n<!-- end of table -->\n")
+        status, _, err = self.run_all("good", "--kept", "--markdown", document)
+        self.assertEqual(status, 2)
+        self.assertIn("keeps nothing of these files", err)
+        self.assertIn("old", document.read_text())
+
+    def test_a_worker_that_is_killed_ends_the_run_with_what_is_left(self) -> None:
+        status, out, err = self.run_all("killing", "--markdown", self.folder / "table.md")
+        self.assertEqual(status, 1)
+        self.assertIn("0 files at a width as expected, 0 not, 6 left", out)
+        self.assertIn("run fewer at once by `-j`; what is done is kept", err)
+        self.assertIn("and 6 are left.", (self.folder / "table.md").read_text())
 
     def test_the_page_stands_alone(self) -> None:
         self.run_all("good", "--html", self.folder / "page.html")

@@ -25,9 +25,10 @@ NEGATIVE = "negative 0 (not f0) in 1 2 out 0\n"
 POSITIVE = "positive (not f1) f0 in 0 2 word 0 kept 0\n"
 
 
-def told(answer: str, accepted: bool | None = True) -> str:
+def told(answer: str, accepted: bool | None = True, version: int = 2) -> str:
     """The story of a certificate with an answer."""
-    return "\n".join(Story(read_certificate(f"certificate 2\n{PROBLEM}answer {answer}end\n", "t"), accepted).lines())
+    certificate = read_certificate(f"certificate {version}\n{PROBLEM}answer {answer}end\n", "t")
+    return "\n".join(Story(certificate, accepted).lines())
 
 
 class Stories(unittest.TestCase):
@@ -58,6 +59,12 @@ class Stories(unittest.TestCase):
             "`check` accepted this certificate in this run, so it is proved that",
             "no sound transformer of the grammar is closer",
         )
+
+    def test_hints_are_told_as_chains_are(self) -> None:
+        answer = f"best\nterm (not f1)\nterm (not f0)\n{NEGATIVE}{POSITIVE}log sound\n%s\nlog best\n%s\n%s\n"
+        chains = told(answer % ("chain 1 2 3", "chain 1", "chain 2"))
+        hints = told(answer % ("clause by 1 3", "clause 2 4 by 1", "clause by 2"), version=4)
+        self.assertEqual(hints, chains)
 
     def test_none(self) -> None:
         text = told(f"none\n{POSITIVE.replace('kept 0', 'kept')}log fit\nchain 1 2 3\n")
