@@ -140,6 +140,8 @@ class Run(WithFolder):
     def test_an_interrupted_run_keeps_what_is_done_and_is_taken_up(self) -> None:
         words = [sys.executable, "-m", "amurth_lab", "run", str(self.files), "--out", str(self.folder / "out")]
         words += ["--program", str(fake(self.folder, "slow"))]
+        # A shell that starts the tests in the background has them ignore interrupts, and the run would inherit that.
+        self.addCleanup(signal.signal, signal.SIGINT, signal.signal(signal.SIGINT, signal.default_int_handler))
         process = subprocess.Popen(words, cwd=LAB, stdout=subprocess.PIPE, stderr=subprocess.PIPE, text=True)
         assert process.stderr is not None
         first = process.stderr.readline()
