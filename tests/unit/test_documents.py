@@ -32,11 +32,17 @@ class Documents(unittest.TestCase):
 
     def test_crates_are_listed_in_their_order(self) -> None:
         names = [line.split(":")[0] for line in (TOP / "crates.txt").read_text(encoding="utf-8").splitlines()]
-        rows = [row for row in (TOP / "README.md").read_text(encoding="utf-8").splitlines() if row.startswith("| `am")]
-        self.assertEqual([name for row in rows for name in re.findall(r"`(\w+)`", row.split("|")[1])], names)
+        self.assertEqual(self.crates_of_table("What each crate promises"), names)
+        defining = self.crates_of_table("Where definitions stand")
+        self.assertEqual(defining, [name for name in names if name in defining])
+
+    @staticmethod
+    def crates_of_table(title: str) -> list[str]:
+        """The crates in the first column of the table that stands under this title of the architecture."""
         text = (TOP / "docs/ARCHITECTURE.md").read_text(encoding="utf-8")
-        listed = re.findall(r"^\| `(am\w+)` \| ", text, flags=re.M)
-        self.assertEqual(listed, [name for name in names if name in listed])
+        section = text.split(f"\n## {title}\n")[1].split("\n## ")[0]
+        rows = [line for line in section.splitlines() if line.startswith("| `am")]
+        return [name for row in rows for name in re.findall(r"`(\w+)`", row.split("|")[1])]
 
     def test_the_walkthrough_quotes_the_certificate(self) -> None:
         certificate = (TOP / "docs/complement.cert").read_text(encoding="utf-8").splitlines()
