@@ -23,9 +23,6 @@ BUILT = TOP / "crates/amurth/out/amurth"
 def main(arguments: Sequence[str] | None = None) -> int:
     """Runs the cases, and answers the exit status."""
     options = _options(arguments)
-    if not options.program.is_file():
-        print(f"no program at {options.program}: rt ci builds it", file=sys.stderr)
-        return 2
     try:
         cases = [case for case in read_cases(options.cases, TOP) if _is_chosen(case, options.only)]
     except BadCase as bad:
@@ -35,6 +32,9 @@ def main(arguments: Sequence[str] | None = None) -> int:
         for case in cases:
             print(f"{case.place}: {case.name}")
         return 0
+    if not options.program.is_file():
+        print(f"no program at {options.program}: rt ci builds it", file=sys.stderr)
+        return 2
     return _run_all(cases, options.program.resolve(), options.jobs)
 
 

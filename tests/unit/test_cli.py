@@ -50,6 +50,12 @@ class WholeRun(WithFakes):
         self.assertEqual(ended.returncode, 2)
         self.assertIn("no program at", ended.stderr)
 
+    def test_without_a_program_the_cases_are_listed(self) -> None:
+        command = self.command(CASES, "--list")
+        (self.folder / "program").unlink()
+        ended = subprocess.run(command, capture_output=True, text=True, check=False)
+        self.assertEqual((ended.returncode, len(ended.stdout.splitlines()), ended.stderr), (0, 2, ""))
+
     def test_a_terminal_is_told_how_far_the_run_is(self) -> None:
         leader, follower = pty.openpty()
         ended = subprocess.run(self.command(CASES, "--jobs", "1"), stdout=follower, check=False)
