@@ -12,7 +12,6 @@ use Rattle.am_syntax.proofs.Laws.{repeat_law, same_bytes, seen_good_law, seen_la
 use Rattle.am_flow.specs.declared.flow.Action.{Action}
 use Rattle.am_flow.specs.declared.flow.Action.TheVariants.{Any, Apply, Copy, Set, Skip}
 use Rattle.am_flow.specs.declared.flow.Edge.{Edge}
-use Rattle.am_flow.specs.declared.limits.TheConstants.{MOST_EDGES}
 use Rattle.am_flow.specs.Grammar.{ActionParts, Shape, action, action_of, action_parts, application, edge, edge_line}
 use Rattle.am_flow.specs.Grammar.{edge_of, edge_parts, edges, is_number_next, variable}
 use Rattle.am_flow.specs.inside.Shapes.{IsShape}
@@ -171,7 +170,7 @@ module _ (s : Shape) (is : IsShape s) where
   -- an edge is read exactly where one is spelled and there may be one more
   pub edge_law : (seen : List Edge) → IsExact (edge s seen) NoNumber
   unfolding edge
-  edge_law seen = one_more_law (nat_lt (length seen) MOST_EDGES) edge_line_law
+  edge_law seen = one_more_law (nat_lt (length seen) 256) edge_line_law
 
   -- an edge takes tokens
   pub edge_moves : (seen : List Edge) (e : Edge) → (edge s seen).Good e → 0 < length ((edge s seen).spell e)

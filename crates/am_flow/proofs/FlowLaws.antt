@@ -13,7 +13,6 @@ use Rattle.am_syntax.proofs.Laws.{closed_law, keyed_law, number_law, seen_law, t
 use Rattle.am_flow.specs.declared.flow.Action.{Action}
 use Rattle.am_flow.specs.declared.flow.Action.TheVariants.{Any, Apply, Copy, Set, Skip}
 use Rattle.am_flow.specs.declared.flow.Edge.{Edge}
-use Rattle.am_flow.specs.declared.limits.TheConstants.{MOST_EDGES}
 use Rattle.am_flow.specs.Flows.{Flow, IsAction, IsEdge, IsFlow}
 use Rattle.am_flow.specs.Grammar.{FlowParts, Shape, action, edge, edge_line, edges, flow, flow_of, flow_parts, variable}
 use Rattle.am_flow.specs.Texts.{FlowsAreExact, GoodFlowsAreFlows}
@@ -100,25 +99,25 @@ module _ (f : Flow) (n : ℕ) where
     ),
   )
 
-  edges_limits : (seen es : List Edge) → length seen ≤ MOST_EDGES → good_from (edge s) seen es →
-      All (IsEdge f n) es × (length seen + length es ≤ MOST_EDGES)
+  edges_limits : (seen es : List Edge) → length seen ≤ 256 → good_from (edge s) seen es →
+      All (IsEdge f n) es × (length seen + length es ≤ 256)
   unfolding edge edge_line below
   edges_limits seen [] few good = (All-nil (IsEdge f n), omega (arith, few))
   edges_limits seen (e ∷ es) few good =
-      let room : length seen < MOST_EDGES = ltb-true (length seen) MOST_EDGES good.0.0 in
+      let room : length seen < 256 = ltb-true (length seen) 256 good.0.0 in
       let more = edges_limits (seen ++ e ∷ []) es (omega (arith, length-append seen (e ∷ []))) good.1 in
       let is : IsEdge f n e =
       record { from = good.0.1.0.1; to = good.0.1.1.0.1; action = action_limits e.action good.0.1.1.1 } in
       (All-cons (IsEdge f n) e es is more.0, omega (arith, more.1, length-append seen (e ∷ [])))
 
-  edges_good : (seen es : List Edge) → All (IsEdge f n) es → length seen + length es ≤ MOST_EDGES →
+  edges_good : (seen es : List Edge) → All (IsEdge f n) es → length seen + length es ≤ 256 →
       good_from (edge s) seen es
   unfolding edge edge_line below
   edges_good seen [] all few = tt
   edges_good seen (e ∷ es) all few =
       let is = All-head (IsEdge f n) e es all in (
         (
-          lt-ltb (length seen) MOST_EDGES (omega arith),
+          lt-ltb (length seen) 256 (omega arith),
           ((omega arith, is.from), ((omega arith, is.to), action_good e.action is.action)),
         ),
         edges_good (seen ++ e ∷ []) es (All-tail (IsEdge f n) e es all)

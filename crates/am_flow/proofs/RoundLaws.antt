@@ -10,7 +10,7 @@ use Rattle.am_flow.specs.Flows.{AreOperations, Flow, Operation}
 use Rattle.am_flow.specs.States.{Entry, State, all_joined, edge_step, entries_from, entry_after, entry_at, joined}
 use Rattle.am_flow.specs.States.{round}
 use Rattle.am_flow.specs.inside.Rows.{IsEntry, IsState}
-use Rattle.am_flow.specs.inside.Steps.{CanFollow}
+use Rattle.am_flow.specs.inside.Steps.{CanFollow, JoinsStep}
 use Rattle.am_flow.proofs.RowLaws.{all_follow, all_joined_entry, steps_of}
 
 all_joined-push : (f : Flow) (e : Entry) (steps : List Entry) (s : Entry) →
@@ -71,28 +71,44 @@ module _ (f : Flow) (operations : List Operation) (before : State) where
     entries = λ n below. ap (λ (s : State). entry_at s n) e;
   }
 
+  -- where nothing gets along an edge, a state stays
+  pub joins_nothing : (e : Edge) (state : State) → edge_step f operations before e ≡ None →
+      JoinsStep f operations before e state state
+  joins_nothing e state nothing = record {
+    counted = refl;
+    there = sym (ap (joined f (entry_at state e.to)) nothing ∙ joined-None f (entry_at state e.to));
+    others = λ n other. refl;
+  }
+
+  -- the entry of the edge's end is joined with the step
+  pub joins_there : (e : Edge) (state : State) (entry : Entry) → e.to < length state →
+      entry ≡ joined f (entry_at state e.to) (edge_step f operations before e) →
+      JoinsStep f operations before e state (slice_set state e.to entry)
+  joins_there e state entry place is = record {
+    counted = length-set state e.to entry;
+    there = get_or-set_same state e.to entry None place ∙ is;
+    others = λ n other. get_or-set_other state e.to n entry None other;
+  }
+
   -- one more edge
-  pub after_more : (edges : List Edge) (i : ℕ) (e : Edge) (state : State) → i < length edges → e ≡ get_or edges i e →
-      e.to < f.nodes → IsAfter (take i edges) state →
-      IsAfter (take (i + 1) edges)
-      (slice_set state e.to (joined f (entry_at state e.to) (edge_step f operations before e)))
-  after_more edges i e state below here to is =
-      let step = edge_step f operations before e in
-      let value = joined f (entry_at state e.to) step in
-      record {
-        counted = length-set state e.to value ∙ is.counted;
-        entries = λ n within. elim (cases_eq e.to n) [
-          | inl same ↦
-              ap (entry_at (slice_set state e.to value)) (sym same)
-              ∙ get_or-set_same state e.to value None (omega (arith, is.counted))
-              ∙ ap (λ (x : Entry). joined f x step) (is.entries e.to to ∙ ap (entry_by (take i edges)) same)
-              ∙ sym (entry_by-more edges i e n true below here (eq-eqb e.to n same))
-          | inr other ↦
-              get_or-set_other state e.to n value None (λ same. other (sym same))
-              ∙ is.entries n within
-              ∙ sym (entry_by-more edges i e n false below here (ne_eqb e.to n other))
-        ];
-      }
+  pub after_more : (edges : List Edge) (i : ℕ) (e : Edge) (old new : State) → i < length edges →
+      e ≡ get_or edges i e → e.to < f.nodes → IsAfter (take i edges) old → JoinsStep f operations before e old new →
+      IsAfter (take (i + 1) edges) new
+  after_more edges i e old new below here to is step = record {
+    counted = step.counted ∙ is.counted;
+    entries = λ n within. elim (cases_eq e.to n) [
+      | inl same ↦
+          ap (entry_at new) (sym same)
+          ∙ step.there
+          ∙ ap (λ (x : Entry). joined f x (edge_step f operations before e))
+          (is.entries e.to to ∙ ap (entry_by (take i edges)) same)
+          ∙ sym (entry_by-more edges i e n true below here (eq-eqb e.to n same))
+      | inr other ↦
+          step.others n (λ same. other (sym same))
+          ∙ is.entries n within
+          ∙ sym (entry_by-more edges i e n false below here (ne_eqb e.to n other))
+    ];
+  }
 
   -- entries at all nodes from one on
   same_from : (n count : ℕ) (entries : List Entry) → length entries ≡ count →

@@ -10,7 +10,6 @@ use Rattle.am_flow.specs.declared.flow.Action.{Action}
 use Rattle.am_flow.specs.declared.flow.Action.TheVariants.{Any, Apply, Copy, Set, Skip}
 use Rattle.am_flow.specs.declared.flow.Edge.{Edge}
 use Rattle.am_flow.specs.declared.signature.Signature.{Signature}
-use Rattle.am_flow.specs.declared.limits.TheConstants.{MOST_EDGES, MOST_NODES, MOST_VARIABLES}
 
 -- a width and a domain, so many variables, so many nodes, and edges between them
 pub record Flow : Type 0 where
@@ -38,9 +37,9 @@ pub record IsEdge (f : Flow) (operations : ℕ) (e : Edge) : Type 0 where
 -- a flow within the limits, over so many operations
 pub record IsFlow (operations : ℕ) (f : Flow) : Type 0 where
   pub width : IsWidth f.width
-  pub variables : (1 ≤ f.variables) × (f.variables ≤ MOST_VARIABLES)
-  pub nodes : (1 ≤ f.nodes) × (f.nodes ≤ MOST_NODES)
-  pub few : length f.edges ≤ MOST_EDGES
+  pub variables : (1 ≤ f.variables) × (f.variables ≤ 8)
+  pub nodes : (1 ≤ f.nodes) × (f.nodes ≤ 64)
+  pub few : length f.edges ≤ 256
   pub edges : All (IsEdge f operations) f.edges
 
 -- ---- operations

@@ -11,7 +11,6 @@ use Rattle.am_flow.specs.Flows.{Flow}
 use Rattle.am_flow.specs.declared.flow.Action.{Action}
 use Rattle.am_flow.specs.declared.flow.Action.TheVariants.{Any, Apply, Copy, Set, Skip}
 use Rattle.am_flow.specs.declared.flow.Edge.{Edge}
-use Rattle.am_flow.specs.declared.limits.TheConstants.{MOST_EDGES, MOST_NODES, MOST_VARIABLES}
 
 -- ---- actions
 
@@ -83,7 +82,7 @@ edge_line s =
 
 -- an edge after others, of which there may be one more
 unfoldable pub edge : Shape → List Edge → Piece Edge
-edge s seen = one_more (nat_lt (length seen) MOST_EDGES) (edge_line s)
+edge s seen = one_more (nat_lt (length seen) 256) (edge_line s)
 
 -- the edges of a flow, one line each
 unfoldable pub edges : Shape → Piece (List Edge)
@@ -110,7 +109,7 @@ flow operations = seen_as flow_of flow_parts (
     keyed (codes "flow") (number 1 1) ▹ λ _.
     keyed (codes "width") (number 2 8) ▹ λ w.
     keyed (codes "domain") domain ▹ λ _.
-    keyed (codes "variables") (number 1 MOST_VARIABLES) ▹ λ v.
-    keyed (codes "nodes") (number 1 MOST_NODES) ▹ λ m.
+    keyed (codes "variables") (number 1 8) ▹ λ v.
+    keyed (codes "nodes") (number 1 64) ▹ λ m.
     closed (codes "end")
     (edges (record { width = w; operations = operations; variables = v; nodes = m })))

@@ -16,14 +16,18 @@
 //! only where the operation's assumption holds. [`print_table`] appends exactly the table's lines.
 #![tactic(auto)]
 
+mod actions;
 mod analysis;
+mod edges;
 mod entry;
 mod flow;
+mod head;
 mod limits;
 mod operation;
 mod printing;
 mod reading;
 mod round;
+mod shape;
 mod signature;
 mod step;
 mod stepped;

@@ -1,11 +1,11 @@
 //! Rounds, in which the steps of all edges are joined.
 
-ghost use Rattle.std.specs.Prelude.{◌≡◌, IfOk, OnOk, slice_set};
+ghost use Rattle.std.specs.Prelude.{◌≡◌, IfOk, OnOk};
 ghost use Rattle.am_flow.specs.Flows.{AreOperations};
-ghost use Rattle.am_flow.specs.States.{edge_step, entry_at, first_state, joined, round};
+ghost use Rattle.am_flow.specs.States.{first_state, round};
 ghost use Rattle.am_flow.specs.Stored.{seen_operations};
 ghost use Rattle.am_flow.specs.inside.Rows.{IsState};
-ghost use Rattle.am_flow.specs.inside.Steps.{CanFollow};
+ghost use Rattle.am_flow.specs.inside.Steps.{CanFollow, JoinsStep};
 
 use crate::entry::{Entry, copied, joined};
 use crate::flow::{Edge, Flow};
@@ -33,7 +33,7 @@ pub fn first_state(
     Ok(state)
 }
 
-/// Joins the step of an edge from one state into another.
+/// Joins the step of an edge, taken from one state, into another.
 fn join_step(
     alloc: Global,
     flow: &Flow,
@@ -46,9 +46,8 @@ fn join_step(
     requires before { IsState flow.now before.now }
     requires after { IsState flow.now after.old }
     requires edge { CanFollow flow.now (seen_operations operations.now) edge.now }
-    ensures { let step = edge_step flow.now (seen_operations operations.now) before.now edge.now in
-        let to = edge.now.to in
-        OnOk result (after.new ≡ slice_set after.old to (joined flow.now (entry_at after.old to) step)) }
+    ensures { OnOk result
+        (JoinsStep flow.now (seen_operations operations.now) before.now edge.now after.old after.new) }
 {
     if let Some(step) = edge_step(flow, operations, before, edge) {
         let to = edge.to as usize;

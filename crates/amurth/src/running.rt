@@ -43,7 +43,7 @@ pub fn run<R: Source, W: Sink>(
         × (W.calls output.new ≤ W.calls output.old + length text + 1)) }
     ensures silent { IsSilent result → output.new ≡ output.old }
 
-    // Behind a whole text the sink was finished, and it is finished once at most.
+    // After a whole text the sink was finished, and it is finished once at most.
     ensures finished { IsTold result → W.finished output.new }
     ensures once { W.finishes output.new ≤ W.finishes output.old + 1 }
 

@@ -4,7 +4,7 @@ use Rattle.std.proofs.Common.{inr}
 use Rattle.am_syntax.specs.Pieces.{keyed}
 use Rattle.am_syntax.specs.Readers.{◌>>=◌, Reader, done}
 use Rattle.am_flow.specs.declared.flow.Action.{Action}
-use Rattle.am_flow.specs.declared.reading.Shape.{Shape as StoredShape}
+use Rattle.am_flow.specs.declared.shape.Shape.{Shape as StoredShape}
 use Rattle.am_flow.specs.Grammar.{Shape, action_of, application}
 
 -- a shape as the grammar has it

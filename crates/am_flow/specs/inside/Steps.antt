@@ -1,8 +1,9 @@
--- Which steps can be taken.
-use Rattle.std.specs.Prelude.{◌≡◌, ℕ, ◌<◌, All, List, Some, length, slice_get}
+-- Which steps can be taken, and what one does to a state.
+use Rattle.std.specs.Prelude.{◌≡◌, ◌≢◌, ℕ, ◌<◌, All, List, Some, length, slice_get}
 use Rattle.am_problem.specs.Examples.{IsTransformer}
 use Rattle.am_problem.specs.Limits.{IsProblem}
 use Rattle.am_flow.specs.Flows.{AppliesTo, Flow, IsAction, Operation}
+use Rattle.am_flow.specs.States.{State, edge_step, entry_at, joined}
 use Rattle.am_flow.specs.declared.flow.Action.{Action}
 use Rattle.am_flow.specs.declared.flow.Edge.{Edge}
 
@@ -25,3 +26,11 @@ pub record CanFollow (f : Flow) (operations : List Operation) (e : Edge) : Type 
   pub from : e.from < f.nodes
   pub to : e.to < f.nodes
   pub acts : CanAct f operations e.action
+
+-- the step of an edge, taken from one state, is joined into another: the entry of the edge's end is joined with it,
+-- and the others stay
+pub record JoinsStep (f : Flow) (operations : List Operation) (before : State) (e : Edge) (old new : State) :
+    Type 0 where
+  pub counted : length new ≡ length old
+  pub there : entry_at new e.to ≡ joined f (entry_at old e.to) (edge_step f operations before e)
+  pub others : (n : ℕ) → n ≢ e.to → entry_at new n ≡ entry_at old n

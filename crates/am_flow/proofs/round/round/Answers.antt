@@ -1,8 +1,8 @@
-use Rattle.std.proofs.Common.{◌≡◌, ◌+◌, ap, arith, drop, length, length-set, set, subst, sym, take, take_at, ◌∙◌}
-use Rattle.am_flow.specs.States.{State, edge_step, entry_at, joined}
+use Rattle.std.proofs.Common.{◌≡◌, ◌+◌, ap, arith, drop, length, subst, sym, take, take_at}
+use Rattle.am_flow.specs.States.{State}
 use Rattle.am_flow.specs.Stored.{seen_operations}
 use Rattle.am_flow.specs.inside.Rows.{IsState}
-use Rattle.am_flow.specs.inside.Steps.{CanFollow}
+use Rattle.am_flow.specs.inside.Steps.{CanFollow, JoinsStep}
 use Rattle.am_flow.proofs.RoundLaws.{IsAfter, after_all, after_more, after_state}
 use Rattle.am_flow.proofs.RowLaws.{all_follow}
 use Rattle.std.specs.Prelude.{All}
@@ -39,15 +39,13 @@ edges-preserved c =
     subst (All (CanFollow f operations)) (sym c.edges-edges.ensures) (all_follow f operations c.requires.operations) in
     let can : CanFollow f operations e =
     subst (CanFollow f operations) (sym c.edge-item.is) (all i e c.edges-test.true) in
-    let step = edge_step f operations before e in
-    let made : new ≡ set items e.to (joined f (entry_at items e.to) step) =
-    c.in_ok-join_step.ensures
-    ∙ ap (λ (s : State). set s e.to (joined f (entry_at s e.to) step)) c.as_mut_slice.ensures.value in
-    let many : length new ≡ c.edges.after.len =
-    omega (arith, ap length made, length-set items e.to (joined f (entry_at items e.to) step), c.edges.after.ok.0) in
+    let step : JoinsStep f operations before e items new =
+    subst (λ (s : State). JoinsStep f operations before e s new) c.as_mut_slice.ensures.value
+    c.in_ok-join_step.ensures in
+    let many : length new ≡ c.edges.after.len = omega (arith, step.counted, c.edges.after.ok.0) in
     subst (IsAfter f operations before (take (i + 1) edges))
-    (sym made ∙ sym (take_at new (drop (length new) items) c.edges.after.len many))
-    (after_more f operations before edges i e items c.edges-test.true c.edge-item.is can.to c.edges.invariant)
+    (sym (take_at new (drop (length new) items) c.edges.after.len many))
+    (after_more f operations before edges i e items new c.edges-test.true c.edge-item.is can.to c.edges.invariant step)
 
 pub returns : goal.returns
 returns c =

@@ -4,10 +4,9 @@ use Rattle.am_syntax.specs.declared.refusal.Cause.TheVariants.{Count}
 use Rattle.am_syntax.specs.Readers.{Read, judged}
 use Rattle.am_syntax.proofs.Laws.{makes_refused, refused_alike}
 use Rattle.am_flow.specs.declared.flow.Edge.{Edge}
-use Rattle.am_flow.specs.declared.limits.TheConstants.{MOST_EDGES}
 use Rattle.am_flow.specs.Grammar.{edge, edge_line}
 use Rattle.am_flow.specs.inside.Shapes.{seen_shape}
-use Rattle.am_flow.proofs.reading.read_edge.Goals as goal
+use Rattle.am_flow.proofs.edges.read_edge.Goals as goal
 
 pub returns-in_err-refuse_next : goal.returns-in_err-refuse_next
 unfolding edge
@@ -20,5 +19,5 @@ returns-in_err-refuse_next c =
     let seen = c.args.seen.now in
     let refused : Read Edge = judged (λ _. Err Count) old in
     makes_refused (λ x. x) old left (edge s seen).read cause c.from_residual.result (p.1 ∙ ap Err p.2)
-    (ap (λ b. cond b ((edge_line s).read old) refused) (le-ltb (length seen) MOST_EDGES c.if-seen-lt-MOST_EDGES.false)
+    (ap (λ b. cond b ((edge_line s).read old) refused) (le-ltb (length seen) 256 c.if-seen-lt-MOST_EDGES.false)
     ∙ refused_alike Count (cause, left) old c.in_err-refuse_next.ensures.value)
