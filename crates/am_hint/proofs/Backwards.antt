@@ -86,12 +86,13 @@ left_alone row (m ∷ c) q rising h = elim (same_or m q) [
   go e true = inl (rest_false e)
   go e false = inr (rw (rest_false e, e) refl)
 
--- a clause with one literal that may not be false is a conflict, or forces the literal, or that one is true
+-- a clause with one literal that may not be false is a conflict, or forces the literal, or that literal is true
 pub data IsForcedStatus (row : List ℕ) (q : ℕ) : Status → Type 0 where
   conflict : IsForcedStatus row q Conflict
   forces : IsForcedStatus row q (Forces q)
   passes : Contains row q → IsForcedStatus row q Open
 
+-- a clause that forces a literal has one of these three statuses
 pub forced_status : (row c : List ℕ) (q : ℕ) → IsStrictlyIncreasing c → IsForcedBy row c q
     → IsForcedStatus row q (status_of row c)
 forced_status row c q rising forced = elim (left_alone row c q (AllPairs-from_increasing c rising) forced.1) [

@@ -29,6 +29,7 @@ module _ (k : Checked) (count : ℕ) where
     pub earlier_clause : get_or (all_clauses k) number [] ≡ c
     earlier_clause = get_or_from_slice_get (all_clauses k) number c [] in_all
 
+    -- its number is below the count of all clauses
     pub earlier_within : number < length (all_clauses k)
     earlier_within = slice_get_within (all_clauses k) number c in_all
 

@@ -16,8 +16,8 @@ use Rattle.am_problem.specs.Limits.{IsFormed, IsProblem, slots_of}
 use Rattle.am_problem.specs.Lines.{Lines}
 use Rattle.am_problem.specs.Loads.{load_of}
 use Rattle.am_problem.specs.Problem.{Problem}
-use Rattle.am_problem.specs.Texts.{IfRefused, IsOneProblem, IsProblemText, IsSettledProblem, Reads, all_settled, drafted, named}
-use Rattle.am_problem.specs.Texts.{numbered, problem_of, settled_by, sized, undefined_in}
+use Rattle.am_problem.specs.Texts.{IfRefused, IsOneProblem, IsProblemText, IsSettledProblem, Reads, all_settled}
+use Rattle.am_problem.specs.Texts.{drafted, named, numbered, problem_of, settled_by, sized, undefined_in}
 use Rattle.am_problem.proofs.Formed.{formed_of, lines_of_formed}
 use Rattle.am_problem.proofs.LineLaws.{problem_law}
 use Rattle.am_problem.proofs.LineLimits.{lines_back, lines_good}

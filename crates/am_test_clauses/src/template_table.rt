@@ -10,7 +10,7 @@ pub struct Made {
     pub checksum: u32,
 }
 
-/// A grammar and a width, and what a template and one block behind it make: at the constants 1, 2, 5
+/// A grammar and a width, and what a template and one block after it make: at the constants 1, 2, 5
 /// and 7 as fields, and at four fields of inputs.
 pub struct Sample {
     pub rules: &'static [&'static [Draft]],

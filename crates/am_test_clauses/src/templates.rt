@@ -65,7 +65,7 @@ fn field(
     }
 }
 
-/// A template and one block behind it, at constants or at inputs.
+/// A template and one block after it, at constants or at inputs.
 fn made(
     alloc: Global,
     folding: bool,

@@ -26,9 +26,11 @@ module _ (number : Reading) (top : ℕ → List ℕ) (at_most : Op) where
   pub has_members : HasMembers (interval_domain number top at_most)
   has_members w width a h = (h.tuple.words 0, (le-refl _, h.valid))
 
+  -- the interval from a word to itself has that word
   pub holds_words : HoldsWords (interval_domain number top at_most)
   holds_words w width c h = (record { tuple = pair-IsTuple w c c h h; valid = le-refl _ }, (le-refl _, le-refl _))
 
+  -- the hull of two intervals has the members of both
   pub joins_above : JoinsAbove (interval_domain number top at_most)
   joins_above w width a b ha hb =
       let low = lesser-IsLesser number w (least a) (least b) in
@@ -46,6 +48,7 @@ module _ (number : Reading) (top : ℕ → List ℕ) (at_most : Op) where
             (omega (arith, ints, low.second, between.0), omega (arith, ints, high.second, between.1));
       }
 
+  -- a tuple whose first end is at most its last is an interval, and another has no members
   pub tidies : Tidies (interval_domain number top at_most)
   tidies w width raw h = go (int_le (number w (least raw)) (number w (greatest raw))) refl
     where
@@ -58,6 +61,7 @@ module _ (number : Reading) (top : ℕ → List ℕ) (at_most : Op) where
 
 module _ (number : Reading) (top : ℕ → List ℕ) (at_most : Op)
     (is_top : (w : ℕ) → IsWidth w → IsTop number w (top w)) where
+  -- the interval of all words has each word
   pub has_top : HasTop (interval_domain number top at_most)
   has_top w width =
       let t = is_top w width in
@@ -79,5 +83,6 @@ module _ (number : Reading) (top : ℕ → List ℕ) (at_most : Op)
             [ inl k ↦ fewer (inr k) | inr k ↦ absurd (changed (rw (h, k) (pair-ends a ha.tuple.counted))) ]
       ]
 
+  -- the words outside an interval, which are below 2 ^ w, get fewer with each hull that changes it
   pub descends : Descends (interval_domain number top at_most)
   descends = record { most = λ w width a h. omega arith; falls = falls }

@@ -35,6 +35,7 @@ module _ (number : Reading) (top : ℕ → List ℕ) (op : Op) (at_most : IsAtMo
       val-Node w op (Field i ∷ Field j ∷ []) env ∙ at_most.tells w (val w (Field i) env ∷ val w (Field j) env ∷ [])
       ∙ rw (val-Field w i env, val-Field w j env) refl
 
+  -- the comparison of its ends tells whether a tuple is an interval
   pub tells_validity : TellsValidity (interval_domain number top op)
   tells_validity w width = record {
     fit = simp (laws, at_most.arguments) refl;
@@ -42,6 +43,7 @@ module _ (number : Reading) (top : ℕ → List ℕ) (op : Op) (at_most : IsAtMo
     tells = λ env tuple. rw (val-order w 0 1 env) (at_most-tells _ _);
   }
 
+  -- a word that is at least the first end and at most the last is a member, as two comparisons tell
   pub tells_membership : TellsMembership (interval_domain number top op)
   tells_membership w width = record {
     fit = simp (laws, at_most.arguments) refl;
@@ -57,8 +59,10 @@ module _ (number : Reading) (top : ℕ → List ℕ) (op : Op) (at_most : IsAtMo
         (both-tell _ _ _ _);
   }
 
+-- the unsigned comparison tells whether a word is at most another as an unsigned number
 pub Ule-IsAtMost : IsAtMost unsigned Ule
 Ule-IsAtMost = record { arguments = refl; tells = λ w args. refl }
 
+-- the signed comparison tells whether a word is at most another as a signed number
 pub Sle-IsAtMost : IsAtMost signed Sle
 Sle-IsAtMost = record { arguments = refl; tells = λ w args. refl }

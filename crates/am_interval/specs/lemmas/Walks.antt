@@ -21,9 +21,11 @@ abbrev pub IsModular : Reading → Type 0
 IsModular number =
     (w c d : ℕ) → IsWidth w → c < 2 ^ w → d < 2 ^ w → Leads (2 ^ w) (steps w c d) (number w c) (number w d)
 
+-- steps lead from a word to another as their unsigned numbers do
 pub unsigned-IsModular : IsModular unsigned
 unsigned-IsModular w c d width hc hd = grind (arith, ints, steps-cases w c d hc hd)
 
+-- steps lead from a word to another as their signed numbers do
 pub signed-IsModular : IsModular signed
 signed-IsModular w c d width hc hd = grind (arith, ints, steps-cases w c d hc hd, signed_cases w c, signed_cases w d)
 
@@ -40,16 +42,20 @@ either true c d = inr refl
 either false c d = inl refl
 
 module _ (number : Reading) (top : ℕ → List ℕ) (at_most : Op) where
+  -- each interval has its least end as a member
   pub has_start : HasStart (interval_domain number top at_most)
   has_start w width a h = (has_members number top at_most w width a h).1
 
+  -- the interval of one word begins and ends with it
   pub has_points : HasPoints (interval_domain number top at_most)
   has_points w c h = refl
 
+  -- the hull of two intervals begins where one of them does
   pub keeps_start : KeepsStart (interval_domain number top at_most)
   keeps_start w width a b ha hb = either (int_lt (number w (least b)) (number w (least a))) (least a) (least b)
 
 module _ (number : Reading) (top : ℕ → List ℕ) (at_most : Op) (modular : IsModular number) where
+  -- the members of an interval are the words on the walk from its least end to its greatest
   pub walks_members : WalksMembers (interval_domain number top at_most)
   walks_members w width a h c below =
       let first = h.tuple.words 0 in
@@ -60,6 +66,7 @@ module _ (number : Reading) (top : ℕ → List ℕ) (at_most : Op) (modular : I
       (modular w c (greatest a) width below last) in
       (λ member. among.1 (between.0 member), λ found. between.1 (among.0 found))
 
+  -- the interval from a member to a later one on the walk has the words of that part of the walk
   pub has_parts : HasParts (interval_domain number top at_most)
   has_parts w width a h c e hc he in_c in_e order =
       let first = h.tuple.words 0 in
