@@ -198,8 +198,10 @@ def _turn(words: _Words, count: int) -> Turn:
 
 
 def _logs(text: str) -> dict[str, int]:
-    """The logs' names, each with the number of its derived clauses, which a chain or a hint begins. Logs may be long, and
-    aren't cut into words."""
+    """The logs' names, each with the number of its derived clauses, which a chain or a hint begins.
+
+    Logs may be long, and aren't cut into words.
+    """
     starts = list(_LOG.finditer(text))
     ends = [start.start() for start in starts[1:]] + [len(text)]
     derived = ("chain", "clause")

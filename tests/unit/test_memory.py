@@ -24,7 +24,8 @@ class FallingLimits(WithFakes):
         self.assertIn("status 1, 0 of 9 bytes written", told or "")
 
     def test_a_torn_text_fails(self) -> None:
-        told = self.program("[ $limit -lt 200050 ] && echo acc && exit 5", "[ $limit -lt 200100 ] && exit 5", "echo accepted")
+        torn = "[ $limit -lt 200050 ] && echo acc && exit 5"
+        told = self.program(torn, "[ $limit -lt 200100 ] && exit 5", "echo accepted")
         self.assertIn("status 5, 4 of 9 bytes written", told or "")
 
     def test_a_program_that_never_wants_memory_fails(self) -> None:

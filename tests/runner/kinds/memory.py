@@ -1,7 +1,7 @@
 """Runs under falling limits of the address space: the answer as it is without a limit, or status 5 and nothing written.
 
-The limits lie between the least one under which the program starts (it ends with status 2 where it has no words) and one
-that gives room enough for the answer.
+The limits lie between the least one under which the program starts (it ends with status 2 where it has no words) and
+one that gives room enough for the answer.
 """
 
 from __future__ import annotations

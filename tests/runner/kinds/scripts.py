@@ -18,7 +18,10 @@ _MARKED = re.compile(r"^<!-- run: (?P<name>\S+) -->\n\n(?P<code>(?:    .*\n)+)",
 
 @dataclass(frozen=True)
 class Script:
-    """The shell runs these lines on an input, with the program named `amurth` on the path and the folder `examples` at hand."""
+    """The shell runs these lines on an input.
+
+    The program is named `amurth` on the path, and the folder `examples` is at hand.
+    """
 
     lines: str
     text: bytes
