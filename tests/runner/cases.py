@@ -11,6 +11,7 @@ from . import escapes
 from .blocks import BadCase, Block, Field, read_blocks
 from .inputs import KEYWORDS as INPUT
 from .inputs import Sources, read_input
+from .kinds.faults import Faults
 from .kinds.memory import Memory
 from .kinds.runs import STDIN, STDOUT, Run
 from .kinds.scripts import Script, marked_lines
@@ -18,7 +19,7 @@ from .kinds.synthesis import Synthesis
 from .process import Bench
 from .wanted import AnyOf, Exactly, Like, Text, Wanted
 
-ONCE = ("run", "shell", "readme", "memory", "stdin", "stdout", "status", "output", "like", "best")
+ONCE = ("run", "shell", "readme", "memory", "faults", "stdin", "stdout", "status", "output", "like", "best")
 
 
 class Kind(Protocol):
@@ -95,6 +96,8 @@ def _kind(block: Block, sources: Sources) -> Kind:
     words = [escapes.read(word).decode("latin-1") for word in fields["run"].value.split()]
     if "memory" in fields:
         return Memory(words, text, wanted, fields["memory"].text().decode("latin-1"))
+    if "faults" in fields:
+        return Faults(words, text, wanted)
     if words == ["synth"] and "best" in fields:
         return Synthesis(text, wanted)
     return Run(words, text, wanted, _manner(fields, "stdin", STDIN), _manner(fields, "stdout", STDOUT))

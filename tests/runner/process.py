@@ -35,16 +35,20 @@ class Ended:
 
 @dataclass(frozen=True)
 class Limits:
-    """What a child does before it becomes the program: it closes streams, and limits its address space."""
+    """What a child does before it becomes the program: it closes streams, and limits its address space and files."""
 
     closed: tuple[int, ...] = ()
     address_space: int | None = None
+    file_size: int | None = None
 
     def __call__(self) -> None:
         for number in self.closed:
             os.close(number)
         if self.address_space is not None:
             resource.setrlimit(resource.RLIMIT_AS, (self.address_space, self.address_space))
+        if self.file_size is not None:
+            signal.signal(signal.SIGXFSZ, signal.SIG_IGN)
+            resource.setrlimit(resource.RLIMIT_FSIZE, (self.file_size, self.file_size))
 
 
 def run(
@@ -54,12 +58,13 @@ def run(
     stdin: Stream = subprocess.PIPE,
     stdout: Stream = subprocess.PIPE,
     address_space: int | None = None,
+    file_size: int | None = None,
     folder: Path | None = None,
     environment: dict[str, str] | None = None,
 ) -> Ended:
     """Runs a command on a text, or on streams of the caller's, of which each may be CLOSED."""
     closed = tuple(number for number, stream in enumerate((stdin, stdout)) if stream == CLOSED)
-    limits = Limits(closed, address_space)
+    limits = Limits(closed, address_space, file_size)
     child = subprocess.Popen(
         command,
         stdin=None if stdin == CLOSED else stdin,

@@ -16,9 +16,9 @@ use Rattle.am_all.specs.declared.cases.Case.{Case}
 use Rattle.am_all.specs.declared.word_set.WordSet.{WordSet}
 use Rattle.am_all.specs.inside.Cases.{IsCaseOf}
 use Rattle.am_all.specs.inside.Leaders.{AreFacts, IsResult, numbers_of}
-use Rattle.am_all.specs.inside.Numbers.{number_of, words_at}
-use Rattle.am_all.specs.inside.Results.{IsBeyond, IsCovering, IsInside, IsMissing, set_at}
-use Rattle.am_all.specs.inside.Values.{HasMembers}
+use Rattle.am_all.specs.inside.Numbers.{tuple_number, words_at}
+use Rattle.am_all.specs.inside.Results.{IsBeyond, IsCovering, IsMissing, IsResultInside, set_at}
+use Rattle.am_all.specs.inside.Values.{IsMemberSet}
 use Rattle.am_all.proofs.FitLaws.{inputs-tuple}
 use Rattle.am_all.proofs.InputLaws.{each-word, members-tuple}
 use Rattle.am_all.proofs.NumberLaws.{number_of-below, words_at-number_of}
@@ -48,44 +48,48 @@ module _ (p : Problem) (sets : List WordSet) (cases : List Case) (limits : IsPro
 
   -- the number of a tuple has the tuple's members
   number-set : (words : List ℕ) → IsTuple p.width (fields_of p.kind) words →
-      (number_of p.width words < length sets) × HasMembers p words (set_at sets (number_of p.width words))
+      (tuple_number p.width words < length sets) × IsMemberSet p words (set_at sets (tuple_number p.width words))
   number-set words is =
-      let n = number_of p.width words in
+      let n = tuple_number p.width words in
       let power : 2 ^ (p.width * length words) ≡ 2 ^ (p.width * fields_of p.kind) =
       ap (λ k. 2 ^ (p.width * k)) is.counted in
       let below : n < length sets = omega
       (arith, number_of-below p.width words is.words, power, facts.all_members.counted) in
       let same : words_at p.width (fields_of p.kind) n ≡ words =
-      ap (λ k. words_at p.width k n) (sym is.counted) ∙ words_at-number_of p.width words is.words in
-      (below, subst (λ a. HasMembers p a (set_at sets n)) same (facts.all_members.each n (record { parts = [] }) below))
+      ap (λ k. words_at p.width k n) (sym is.counted) ∙ words_at-number_of p.width words is.words in (
+        below,
+        subst (λ a. IsMemberSet p a (set_at sets n)) same
+            (facts.all_members.each n (record { parts = [] }) below),
+      )
 
   -- the number at a case
   number-at : (terms : List Term) (i : ℕ) (d : Case) → i < length cases →
-      slice_index (numbers_of p cases terms) i ≡ number_of p.width
+      slice_index (numbers_of p cases terms) i ≡ tuple_number p.width
       (map (λ t. val p.width t (slice_index_or cases i d).fields) terms)
   number-at terms i d l = get_or-map
-      (λ (case : Case). number_of p.width (map (λ t. val p.width t case.fields) terms)) cases i d 0 l
+      (λ (case : Case). tuple_number p.width (map (λ t. val p.width t case.fields) terms)) cases i d 0 l
 
   -- the set of the result at the case of inputs has its members
   result-set : (terms : List Term) → AreTerms p terms → (i : ℕ) (d : Case) → i < length cases →
       (inputs : List (List ℕ)) → IsCaseOf p inputs (slice_index_or cases i d) →
-      HasMembers p (results (question_of p) terms inputs) (set_at sets (slice_index (numbers_of p cases terms) i))
+      IsMemberSet p (results (question_of p) terms inputs) (set_at sets (slice_index (numbers_of p cases terms) i))
   result-set terms are i d l inputs of =
       let tuple = values-tuple terms are (concat inputs) (inputs-tuple p inputs of.valid) in
-      let same : slice_index (numbers_of p cases terms) i ≡ number_of p.width (results (question_of p) terms inputs) =
-      number-at terms i d l ∙ ap (λ row. number_of p.width (map (λ t. val p.width t row) terms)) of.fields in
-      subst (λ n. HasMembers p (results (question_of p) terms inputs) (set_at sets n)) (sym same)
+      let same : slice_index (numbers_of p cases terms) i ≡ tuple_number p.width
+      (results (question_of p) terms inputs) =
+      number-at terms i d l ∙ ap (λ row. tuple_number p.width (map (λ t. val p.width t row) terms)) of.fields in
+      subst (λ n. IsMemberSet p (results (question_of p) terms inputs) (set_at sets n)) (sym same)
       (number-set (results (question_of p) terms inputs) tuple).1
 
   -- the numbers have sets
   pub numbers-result : (terms : List Term) → AreTerms p terms →
       IsResult (length cases) (length sets) (numbers_of p cases terms)
   numbers-result terms are = record {
-    counted = length-map cases (λ (case : Case). number_of p.width (map (λ t. val p.width t case.fields) terms));
+    counted = length-map cases (λ (case : Case). tuple_number p.width (map (λ t. val p.width t case.fields) terms));
     inside = All-map (λ n. n < length sets)
-        (λ (case : Case). number_of p.width (map (λ t. val p.width t case.fields) terms)) cases
+        (λ (case : Case). tuple_number p.width (map (λ t. val p.width t case.fields) terms)) cases
         (All-weaker (λ case. (inputs : List (List ℕ)) × IsCaseOf p inputs case)
-        (λ case. number_of p.width (map (λ t. val p.width t case.fields) terms) < length sets)
+        (λ case. tuple_number p.width (map (λ t. val p.width t case.fields) terms) < length sets)
         (λ case of. (number-set (map (λ t. val p.width t case.fields) terms)
         (values-tuple terms are case.fields
         (subst (IsTuple p.width (p.inputs * fields_of p.kind)) (sym of.1.fields) (inputs-tuple p of.0 of.1.valid)))).0)
@@ -134,7 +138,7 @@ module _ (p : Problem) (sets : List WordSet) (cases : List Case) (limits : IsPro
   -- a transformer within another has results inside its results
   pub within-inside : (inner outer : List Term) → AreTerms p inner → AreTerms p outer →
       IsWithin (question_of p) inner outer →
-      IsInside sets (numbers_of p cases inner) (numbers_of p cases outer)
+      IsResultInside sets (numbers_of p cases inner) (numbers_of p cases outer)
   within-inside inner outer are are' within i l c has =
       let d : Case = record { fields = []; images = record { parts = [] } } in
       let below : i < length cases =
@@ -142,7 +146,7 @@ module _ (p : Problem) (sets : List WordSet) (cases : List Case) (limits : IsPro
         arith,
         l,
         length-map cases
-            (λ (case : Case). number_of p.width (map (λ t. val p.width t case.fields) inner)),
+            (λ (case : Case). tuple_number p.width (map (λ t. val p.width t case.fields) inner)),
       ) in
       let of = facts.all_cases.each i d below in
       let member = (result-set inner are i d below of.0 of.1 c).0 has in
@@ -150,7 +154,7 @@ module _ (p : Problem) (sets : List WordSet) (cases : List Case) (limits : IsPro
 
   -- and the other way round
   pub inside-within : (inner outer : List Term) → AreTerms p inner → AreTerms p outer →
-      IsInside sets (numbers_of p cases inner) (numbers_of p cases outer) →
+      IsResultInside sets (numbers_of p cases inner) (numbers_of p cases outer) →
       IsWithin (question_of p) inner outer
   inside-within inner outer are are' inside inputs valid c below member =
       let found = facts.all_cases.all inputs valid in
@@ -174,7 +178,7 @@ module _ (p : Problem) (sets : List WordSet) (cases : List Case) (limits : IsPro
         arith,
         beyond.1,
         length-map cases
-            (λ (case : Case). number_of p.width (map (λ t. val p.width t case.fields) outer)),
+            (λ (case : Case). tuple_number p.width (map (λ t. val p.width t case.fields) outer)),
       ) in
       let of = facts.all_cases.each i d below in
       let c = beyond.2.word in

@@ -17,7 +17,7 @@ use Rattle.am_domain.specs.Question.{AreInputs}
 use Rattle.am_domain.specs.Tuple.{IsTuple}
 use Rattle.am_domain.proofs.Laws.{AreWords-nil, IsTuple-append}
 use Rattle.am_problem.specs.Kinds.{fields_of, meaning_of}
-use Rattle.am_problem.specs.Limits.{IsOver, IsProblem}
+use Rattle.am_problem.specs.Limits.{IsLeafOver, IsProblem}
 use Rattle.am_problem.specs.Problem.{Problem, question_of}
 use Rattle.am_tree.specs.Grammars.{is_production}
 use Rattle.am_tree.specs.declared.grammar.Production.{Production}
@@ -67,7 +67,7 @@ length-terms_at rules D (n ∷ names) (t ∷ children) h = ap suc (length-terms_
 -- the term of a production over children whose terms fit
 production-fits : (w m count : ℕ) (rules : Rules) (D : ℕ → Tree → Type 0) →
     ((n : ℕ) (t : Tree) → D n t → IsTrue (fits w m (term_of rules n t))) →
-    (p : Production) (children : List Tree) → IsTrue (is_production count p) → IsOver w m p →
+    (p : Production) (children : List Tree) → IsTrue (is_production count p) → IsLeafOver w m p →
     AreDerived D (Some p) children →
     IsTrue (fits w m (term_by (Some p) (map (λ t n. term_of rules n t) children)))
 production-fits w m count rules D fit (Leaf t) children formed over h = over
@@ -82,7 +82,7 @@ production-fits w m count rules D fit (Node op names) children formed over h =
 
 -- the term of a tree whose children's terms fit
 derived-step : (w m : ℕ) (rules : Rules) → All (All (λ p. IsTrue (is_production (length rules) p))) rules →
-    All (All (IsOver w m)) rules →
+    All (All (IsLeafOver w m)) rules →
     (D : ℕ → Tree → Type 0) → ((n : ℕ) (t : Tree) → D n t → IsTrue (fits w m (term_of rules n t))) →
     (n : ℕ) (t : Tree) →
     (o : Option Production) → production_at rules n (production_of t) ≡ o → AreDerived D o (children_of t) →
@@ -92,11 +92,11 @@ derived-step w m rules formed leaves D fit n t (Some p) e a =
     rw (term-by rules n t, e)
     (production-fits w m (length rules) rules D fit p (children_of t)
     (at-production (λ p. IsTrue (is_production (length rules) p)) rules n (production_of t) p formed e)
-    (at-production (IsOver w m) rules n (production_of t) p leaves e) a)
+    (at-production (IsLeafOver w m) rules n (production_of t) p leaves e) a)
 
 -- the term of a derived tree fits
 pub derived-fits : (w m : ℕ) (rules : Rules) → All (All (λ p. IsTrue (is_production (length rules) p))) rules →
-    All (All (IsOver w m)) rules →
+    All (All (IsLeafOver w m)) rules →
     (d n : ℕ) (t : Tree) → Derives rules d n t → IsTrue (fits w m (term_of rules n t))
 derived-fits w m rules formed leaves zero n t h = absurd h
 derived-fits w m rules formed leaves (suc d) n t h =

@@ -20,7 +20,7 @@ use Rattle.am_all.specs.declared.cases.Case.{Case}
 use Rattle.am_all.specs.declared.cases.Outcome.{Outcome}
 use Rattle.am_all.specs.declared.values.Value.{Value}
 use Rattle.am_all.specs.inside.Cases.{AreCases, AreIn, AreOutcomes, AreOutcomesAt, IsCaseBy, IsCaseOf, IsOutcome}
-use Rattle.am_all.specs.inside.Values.{AreValues, IsValue}
+use Rattle.am_all.specs.inside.Values.{AreAllValues, IsAbstractValue}
 use Rattle.am_all.proofs.Lists.{any-all, any-cases, any-contains, any-here, any-none, any-there, any-weaker}
 use Rattle.am_all.proofs.PickLaws.{any-map, choices-are, zip-replicate}
 
@@ -67,14 +67,14 @@ all-outcomes p words outcomes has found = record {
 
 -- words that are members of inputs, as sets tell it
 
-in-members : (p : Problem) (vs : List Value) (words : List ℕ) → All (IsValue p) vs → AreIn vs words ↔
+in-members : (p : Problem) (vs : List Value) (words : List ℕ) → All (IsAbstractValue p) vs → AreIn vs words ↔
     AreMembers (question_of p) (map (λ v. v.fields) vs) words
 in-members p [] [] are = (λ h. tt, λ h. tt)
 in-members p [] (c ∷ words) are = (λ h. absurd h, λ h. absurd h)
 in-members p (v ∷ vs) [] are = (λ h. absurd h, λ h. absurd h)
 in-members p (v ∷ vs) (c ∷ words) are =
-    let first = (All-head (IsValue p) v vs are).members c in
-    let rest = in-members p vs words (All-tail (IsValue p) v vs are) in (
+    let first = (All-head (IsAbstractValue p) v vs are).members c in
+    let rest = in-members p vs words (All-tail (IsAbstractValue p) v vs are) in (
       λ h. ((first.0 h.0).0, (first.0 h.0).1, rest.0 h.1),
       λ h. (first.1 (h.0, h.1), rest.1 h.2),
     )
@@ -97,7 +97,7 @@ members-tuple p inputs words e h =
 
 -- the case of a row of values is that of the inputs
 case-of : (p : Problem) (outcomes : List Outcome) (vs : List Value) (case : Case) → AreOutcomes p outcomes →
-    length vs ≡ p.inputs → All (IsValue p) vs →
+    length vs ≡ p.inputs → All (IsAbstractValue p) vs →
     IsCaseBy outcomes vs case → IsCaseOf p (map (λ v. v.fields) vs) case
 case-of p outcomes vs case are e values by =
     let inputs = map (λ (v : Value). v.fields) vs in
@@ -107,7 +107,7 @@ case-of p outcomes vs case are e values by =
         counted = count;
         values =
             All-map (IsAbstract (meaning_of p.kind) p.width) (λ (v : Value). v.fields) vs
-            (All-weaker (IsValue p) (λ v. IsAbstract (meaning_of p.kind) p.width v.fields)
+            (All-weaker (IsAbstractValue p) (λ v. IsAbstract (meaning_of p.kind) p.width v.fields)
             (λ v is. is.value) vs values);
       };
       fields = by.fields;
@@ -141,7 +141,7 @@ record AreOf (p : Problem) (values : List Value) (inputs : List (List ℕ)) : Ty
   pub fields : map (λ v. v.fields) row ≡ inputs
   pub all : All (Contains values) row
 
-inputs-row : (p : Problem) (values : List Value) → AreValues p values → (inputs : List (List ℕ)) →
+inputs-row : (p : Problem) (values : List Value) → AreAllValues p values → (inputs : List (List ℕ)) →
     All (IsAbstract (meaning_of p.kind) p.width) inputs → AreOf p values inputs
 inputs-row p values are [] h = record { row = []; fields = refl; all = All-nil (Contains values) }
 inputs-row p values are (a ∷ inputs) h =
@@ -175,15 +175,18 @@ zip-any R P Q f (x ∷ xs) (y ∷ ys) any h = elim (any-cases P x xs any) [
 ]
 
 -- a row of values of the list
-row-of : (p : Problem) (values vs : List Value) → AreValues p values →
-    Contains (choices (replicate p.inputs values)) vs → (length vs ≡ p.inputs) × All (IsValue p) vs
+row-of : (p : Problem) (values vs : List Value) → AreAllValues p values →
+    Contains (choices (replicate p.inputs values)) vs → (length vs ≡ p.inputs) × All (IsAbstractValue p) vs
 row-of p values vs are h =
-    let is = (zip-replicate Contains p.inputs values vs).0 ((choices-are (replicate p.inputs values) vs).0 h) in
-    (is.0, All-weaker (Contains values) (IsValue p) (λ v. All-contains (IsValue p) values v are.each) vs is.1)
+    let is = (zip-replicate Contains p.inputs values vs).0 ((choices-are (replicate p.inputs values) vs).0 h) in (
+      is.0,
+      All-weaker (Contains values) (IsAbstractValue p) (λ v. All-contains (IsAbstractValue p) values v are.each) vs
+          is.1,
+    )
 
 -- the cases of all rows of values are the cases of all inputs
 pub all-cases : (p : Problem) (values : List Value) (outcomes : List Outcome) (cases : List Case) →
-    AreValues p values → AreOutcomes p outcomes →
+    AreAllValues p values → AreOutcomes p outcomes →
     AllZip (IsCaseBy outcomes) (choices (replicate p.inputs values)) cases → AreCases p cases
 all-cases p values outcomes cases are os zip =
     let rows = choices (replicate p.inputs values) in

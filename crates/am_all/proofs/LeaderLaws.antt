@@ -6,8 +6,8 @@ use Rattle.std.proofs.lemmas.List.Elements.{All-contains, All-contains_itself, A
 use Rattle.std.proofs.lemmas.List.Elements.{Contains-append_left, Contains-push, Contains-push_cases}
 use Rattle.am_all.specs.declared.cases.Case.{Case}
 use Rattle.am_all.specs.declared.word_set.WordSet.{WordSet}
-use Rattle.am_all.specs.inside.Leaders.{AreJoined, AreLeaders, IsResult}
-use Rattle.am_all.specs.inside.Results.{IsBeyond, IsCovering, IsInside, IsMissing}
+use Rattle.am_all.specs.inside.Leaders.{AreJoinedLeaders, AreLeaders, IsResult}
+use Rattle.am_all.specs.inside.Results.{IsBeyond, IsCovering, IsMissing, IsResultInside}
 use Rattle.am_all.proofs.Leading.{inside-trans}
 use Rattle.am_all.proofs.Lists.{any-all}
 
@@ -16,7 +16,8 @@ pub record AreSorted (sets : List WordSet) (leaders : List (List ℕ)) (numbers 
     (rest joined : List (List ℕ)) : Type 0 where
   pub left : All (Contains leaders) rest
   pub from : All (Contains leaders) joined
-  pub stay : All (λ leader. Contains rest leader ⊎ (Contains joined leader ⊎ IsInside sets numbers leader)) leaders
+  pub stay : All (λ leader. Contains rest leader ⊎ (Contains joined leader ⊎ IsResultInside sets numbers leader))
+      leaders
 
 module _ (sets : List WordSet) (leaders : List (List ℕ)) (numbers : List ℕ) where
   -- at first all leaders are looked at still
@@ -24,7 +25,7 @@ module _ (sets : List WordSet) (leaders : List (List ℕ)) (numbers : List ℕ) 
   sorted-first = record {
     left = All-contains_itself leaders;
     from = All-nil (Contains leaders);
-    stay = All-weaker (Contains leaders) (λ l. Contains leaders l ⊎ (Contains [] l ⊎ IsInside sets numbers l))
+    stay = All-weaker (Contains leaders) (λ l. Contains leaders l ⊎ (Contains [] l ⊎ IsResultInside sets numbers l))
         (λ l h. inl h) leaders (All-contains_itself leaders);
   }
 
@@ -51,8 +52,8 @@ module _ (sets : List WordSet) (leaders : List (List ℕ)) (numbers : List ℕ) 
   sorted-kept old rest joined leader are e = record {
     left = sorted-left old rest joined leader are e;
     from = All-push (Contains leaders) joined leader are.from (sorted-last old rest joined leader are e);
-    stay = All-weaker (λ l. Contains old l ⊎ (Contains joined l ⊎ IsInside sets numbers l))
-        (λ l. Contains rest l ⊎ (Contains (joined ++ leader ∷ []) l ⊎ IsInside sets numbers l))
+    stay = All-weaker (λ l. Contains old l ⊎ (Contains joined l ⊎ IsResultInside sets numbers l))
+        (λ l. Contains rest l ⊎ (Contains (joined ++ leader ∷ []) l ⊎ IsResultInside sets numbers l))
         (λ l h. elim h [
           | inl there ↦ elim (Contains-push_cases rest leader l (subst (λ ls. Contains ls l) e there)) [
             | inl still ↦ inl still
@@ -69,16 +70,16 @@ module _ (sets : List WordSet) (leaders : List (List ℕ)) (numbers : List ℕ) 
   -- one isn't, as the result is inside it
   pub sorted-dropped : (old rest joined : List (List ℕ)) (leader : List ℕ) →
       AreSorted sets leaders numbers old joined → old ≡ rest ++ leader ∷ [] →
-      IsInside sets numbers leader → AreSorted sets leaders numbers rest joined
+      IsResultInside sets numbers leader → AreSorted sets leaders numbers rest joined
   sorted-dropped old rest joined leader are e inside = record {
     left = sorted-left old rest joined leader are e;
     from = are.from;
-    stay = All-weaker (λ l. Contains old l ⊎ (Contains joined l ⊎ IsInside sets numbers l))
-        (λ l. Contains rest l ⊎ (Contains joined l ⊎ IsInside sets numbers l))
+    stay = All-weaker (λ l. Contains old l ⊎ (Contains joined l ⊎ IsResultInside sets numbers l))
+        (λ l. Contains rest l ⊎ (Contains joined l ⊎ IsResultInside sets numbers l))
         (λ l h. elim h [
           | inl there ↦ elim (Contains-push_cases rest leader l (subst (λ ls. Contains ls l) e there)) [
             | inl still ↦ inl still
-            | inr same ↦ inr (inr (subst (IsInside sets numbers) same inside))
+            | inr same ↦ inr (inr (subst (IsResultInside sets numbers) same inside))
           ]
           | inr other ↦ inr other
         ]) leaders are.stay;
@@ -86,13 +87,13 @@ module _ (sets : List WordSet) (leaders : List (List ℕ)) (numbers : List ℕ) 
 
   -- the result comes to those that are kept
   pub sorted-joined : (rest joined : List (List ℕ)) → AreSorted sets leaders numbers rest joined → length rest ≡ 0 →
-      AreJoined sets leaders numbers (joined ++ numbers ∷ [])
+      AreJoinedLeaders sets leaders numbers (joined ++ numbers ∷ [])
   sorted-joined rest joined are none = record {
     from = All-push (λ l. Contains leaders l ⊎ (l ≡ numbers)) joined numbers
         (All-weaker (Contains leaders) (λ l. Contains leaders l ⊎ (l ≡ numbers)) (λ l h. inl h) joined are.from)
         (inr refl);
-    stay = All-weaker (λ l. Contains rest l ⊎ (Contains joined l ⊎ IsInside sets numbers l))
-        (λ l. Contains (joined ++ numbers ∷ []) l ⊎ IsInside sets numbers l)
+    stay = All-weaker (λ l. Contains rest l ⊎ (Contains joined l ⊎ IsResultInside sets numbers l))
+        (λ l. Contains (joined ++ numbers ∷ []) l ⊎ IsResultInside sets numbers l)
         (λ l h. elim h [
           | inl there ↦ absurd (omega (arith, there.1, none))
           | inr other ↦ elim other [
@@ -114,7 +115,8 @@ missing-uncovered cases sets numbers missing covering =
     (missing.2 d).missing (covering missing.0 d missing.1 (missing.2 d).word (missing.2 d).here)
 
 -- nor is it inside another and beyond it
-pub inside-beyond : (sets : List WordSet) (one other : List ℕ) → IsInside sets one other → ¬ IsBeyond sets one other
+pub inside-beyond : (sets : List WordSet) (one other : List ℕ) → IsResultInside sets one other → ¬ IsBeyond sets one
+    other
 inside-beyond sets one other inside beyond = beyond.2.missing (inside beyond.0 beyond.1 beyond.2.word beyond.2.here)
 
 module _ (cases : List Case) (sets : List WordSet) (listed leaders : List (List ℕ)) (numbers : List ℕ)
@@ -129,35 +131,38 @@ module _ (cases : List Case) (sets : List WordSet) (listed leaders : List (List 
     results = lead.results;
     cover = lead.cover;
     stand = longer;
-    lead = All-push (λ ns. IsCovering cases sets ns → Any (λ l. IsInside sets l ns) leaders) listed numbers lead.lead
+    lead = All-push (λ ns. IsCovering cases sets ns → Any (λ l. IsResultInside sets l ns) leaders) listed numbers
+        lead.lead
         (λ covering. absurd (none covering));
   }
 
   -- a leader is inside it
-  pub leaders-led : Any (λ l. IsInside sets l numbers) leaders → AreLeaders cases sets (listed ++ numbers ∷ []) leaders
+  pub leaders-led : Any (λ l. IsResultInside sets l numbers) leaders → AreLeaders cases sets (listed ++ numbers ∷ [])
+      leaders
   leaders-led led = record {
     results = lead.results;
     cover = lead.cover;
     stand = longer;
-    lead = All-push (λ ns. IsCovering cases sets ns → Any (λ l. IsInside sets l ns) leaders) listed numbers lead.lead
+    lead = All-push (λ ns. IsCovering cases sets ns → Any (λ l. IsResultInside sets l ns) leaders) listed numbers
+        lead.lead
         (λ covering. led);
   }
 
   -- it becomes a leader
   pub leaders-joined : (joined : List (List ℕ)) → IsResult (length cases) (length sets) numbers →
-      IsCovering cases sets numbers → AreJoined sets leaders numbers joined →
+      IsCovering cases sets numbers → AreJoinedLeaders sets leaders numbers joined →
       AreLeaders cases sets (listed ++ numbers ∷ []) joined
   leaders-joined joined result covering are = record {
     results = each (IsResult (length cases) (length sets)) lead.results result;
     cover = each (IsCovering cases sets) lead.cover covering;
     stand = each (Contains (listed ++ numbers ∷ [])) longer (Contains-push listed numbers);
-    lead = All-push (λ ns. IsCovering cases sets ns → Any (λ l. IsInside sets l ns) joined) listed numbers
-        (All-weaker (λ ns. IsCovering cases sets ns → Any (λ l. IsInside sets l ns) leaders)
-        (λ ns. IsCovering cases sets ns → Any (λ l. IsInside sets l ns) joined)
+    lead = All-push (λ ns. IsCovering cases sets ns → Any (λ l. IsResultInside sets l ns) joined) listed numbers
+        (All-weaker (λ ns. IsCovering cases sets ns → Any (λ l. IsResultInside sets l ns) leaders)
+        (λ ns. IsCovering cases sets ns → Any (λ l. IsResultInside sets l ns) joined)
         (λ ns h covers.
-        let found = any-all (λ l. Contains joined l ⊎ IsInside sets numbers l)
-        (λ l. IsInside sets l ns) leaders are.stay (h covers) in
-        let old = any-all (IsResult (length cases) (length sets)) (λ l. IsInside sets l ns) leaders lead.results
+        let found = any-all (λ l. Contains joined l ⊎ IsResultInside sets numbers l)
+        (λ l. IsResultInside sets l ns) leaders are.stay (h covers) in
+        let old = any-all (IsResult (length cases) (length sets)) (λ l. IsResultInside sets l ns) leaders lead.results
         (h covers) in
         next ns found.1 (All-contains (IsResult (length cases) (length sets)) leaders found.1 lead.results
         (found.0, found.2, found.3)) found.4.1 found.4.0) listed lead.lead)
@@ -170,9 +175,9 @@ module _ (cases : List Case) (sets : List WordSet) (listed leaders : List (List 
           (λ l h. elim h [ inl there ↦ All-contains P leaders l old there | inr same ↦ subst P (sym same) new ])
           joined are.from
 
-      next : (ns leader : List ℕ) → IsResult (length cases) (length sets) leader → IsInside sets leader ns →
-          Contains joined leader ⊎ IsInside sets numbers leader →
-          Any (λ l. IsInside sets l ns) joined
+      next : (ns leader : List ℕ) → IsResult (length cases) (length sets) leader → IsResultInside sets leader ns →
+          Contains joined leader ⊎ IsResultInside sets numbers leader →
+          Any (λ l. IsResultInside sets l ns) joined
       next ns leader is inside (inl there) = (there.0, leader, there.1, there.2, inside)
       next ns leader is inside (inr below) = (
         are.new.0,

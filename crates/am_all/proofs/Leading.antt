@@ -13,7 +13,7 @@ use Rattle.am_tree.specs.Listed.{tuples_of}
 use Rattle.am_all.specs.declared.cases.Case.{Case}
 use Rattle.am_all.specs.declared.word_set.WordSet.{WordSet}
 use Rattle.am_all.specs.inside.Leaders.{AreFacts, AreLeaders, IsLeading, IsLed, IsResult, all_numbers, tree_numbers}
-use Rattle.am_all.specs.inside.Results.{IsBeyond, IsCovering, IsInside}
+use Rattle.am_all.specs.inside.Results.{IsBeyond, IsCovering, IsResultInside}
 use Rattle.am_all.proofs.Deciding.{beyond-exceeds, covering-sound, inside-within, missing-unsound, numbers-result}
 use Rattle.am_all.proofs.Deciding.{sound-covering, within-inside}
 use Rattle.am_all.proofs.Lists.{any-all, any-contains}
@@ -22,8 +22,8 @@ use Rattle.am_all.proofs.TreeLaws.{tuples-listed}
 use Rattle.am_all.proofs.TupleLaws.{trees-terms}
 
 -- to be inside is transitive, among results of one length
-pub inside-trans : (sets : List WordSet) (a b c : List ℕ) → length a ≡ length b → IsInside sets a b →
-    IsInside sets b c → IsInside sets a c
+pub inside-trans : (sets : List WordSet) (a b c : List ℕ) → length a ≡ length b → IsResultInside sets a b →
+    IsResultInside sets b c → IsResultInside sets a c
 inside-trans sets a b c same first second i l word has = second i (omega (arith, l, same)) word (first i l word has)
 
 module _ (p : Problem) (sets : List WordSet) (cases : List Case) (leaders : List (List ℕ)) (limits : IsProblem p)
@@ -64,23 +64,23 @@ module _ (p : Problem) (sets : List WordSet) (cases : List Case) (leaders : List
             subst (λ os. Betters (question_of p) os terms) derivable.give betters in
             let covers = sound-covering p sets cases limits facts others is' sound' in
             let led = All-contains (λ numbers. IsCovering cases sets numbers →
-            Any (λ leader. IsInside sets leader numbers) leaders) (all_numbers p cases)
+            Any (λ leader. IsResultInside sets leader numbers) leaders) (all_numbers p cases)
             (tree_numbers p cases us) lead.lead (tree-listed us derivable.derive) covers in
             let found = any-all (IsResult (length cases) (length sets))
-            (λ leader. IsInside sets leader (tree_numbers p cases us)) leaders lead.results led in
+            (λ leader. IsResultInside sets leader (tree_numbers p cases us)) leaders lead.results led in
             let leader = found.1 in
             let number = numbers-result p sets cases limits facts terms is in
             let number' = numbers-result p sets cases limits facts others is' in
-            let inner : IsInside sets (tree_numbers p cases us) (tree_numbers p cases ts) =
+            let inner : IsResultInside sets (tree_numbers p cases us) (tree_numbers p cases ts) =
             within-inside p sets cases limits facts others terms is' is betters'.within in
-            let below : IsInside sets leader (tree_numbers p cases ts) =
+            let below : IsResultInside sets leader (tree_numbers p cases ts) =
             inside-trans sets leader (tree_numbers p cases us) (tree_numbers p cases ts)
             (found.4.0.counted ∙ sym number'.counted) found.4.1 inner in
-            let back : IsInside sets (tree_numbers p cases ts) leader =
-            All-contains (λ leader. IsInside sets leader (tree_numbers p cases ts) →
-            IsInside sets (tree_numbers p cases ts) leader) leaders leader leading.unled
+            let back : IsResultInside sets (tree_numbers p cases ts) leader =
+            All-contains (λ leader. IsResultInside sets leader (tree_numbers p cases ts) →
+            IsResultInside sets (tree_numbers p cases ts) leader) leaders leader leading.unled
             (found.0, found.2, found.3) below in
-            let whole : IsInside sets (tree_numbers p cases ts) (tree_numbers p cases us) =
+            let whole : IsResultInside sets (tree_numbers p cases ts) (tree_numbers p cases us) =
             inside-trans sets (tree_numbers p cases ts) leader (tree_numbers p cases us)
             (number.counted ∙ sym found.4.0.counted) back found.4.1 in
             let within = inside-within p sets cases limits facts terms others is is' whole in
@@ -91,7 +91,8 @@ module _ (p : Problem) (sets : List WordSet) (cases : List Case) (leaders : List
   -- a tuple with a leader strictly inside it isn't
   above-not_best : (ts : List Tree) → AreTrees p.rules p.starts p.depth ts → (leader : List ℕ) →
       Contains (all_numbers p cases) leader → IsCovering cases sets leader →
-      IsInside sets leader (tree_numbers p cases ts) → IsBeyond sets (tree_numbers p cases ts) leader → ¬ GivesBest p ts
+      IsResultInside sets leader (tree_numbers p cases ts) → IsBeyond sets (tree_numbers p cases ts) leader → ¬
+      GivesBest p ts
   above-not_best ts are leader stands cover inside beyond best =
       let tree = listed-tree leader stands in
       let us = tree.0 in
@@ -104,7 +105,7 @@ module _ (p : Problem) (sets : List WordSet) (cases : List Case) (leaders : List
       (covering-sound p sets cases limits facts others is' (subst (IsCovering cases sets) (sym same) cover))
       (record {
         within = inside-within p sets cases limits facts others terms is' is
-            (subst (λ ns. IsInside sets ns (tree_numbers p cases ts)) (sym same) inside);
+            (subst (λ ns. IsResultInside sets ns (tree_numbers p cases ts)) (sym same) inside);
         strict = beyond-exceeds p sets cases limits facts terms others is is'
             (subst (IsBeyond sets (tree_numbers p cases ts)) (sym same) beyond);
       })
@@ -117,7 +118,7 @@ module _ (p : Problem) (sets : List WordSet) (cases : List Case) (leaders : List
       (trees-terms p limits ts are) missing best.sound
   led-not_best ts are (inr above) best =
       let found = any-all (Contains (all_numbers p cases))
-      (λ leader. IsInside sets leader (tree_numbers p cases ts) × IsBeyond sets (tree_numbers p cases ts) leader)
+      (λ leader. IsResultInside sets leader (tree_numbers p cases ts) × IsBeyond sets (tree_numbers p cases ts) leader)
       leaders lead.stand above in
       let cover = All-contains (IsCovering cases sets) leaders found.1 lead.cover (found.0, found.2, found.3) in
       above-not_best ts are found.1 found.4.0 cover found.4.1.0 found.4.1.1 best

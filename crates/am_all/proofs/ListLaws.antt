@@ -9,7 +9,7 @@ use Rattle.am_domain.proofs.Laws.{Betters-trans}
 use Rattle.am_problem.specs.Problem.{Problem, question_of}
 use Rattle.am_tree.specs.declared.tree.Tree.{Tree}
 use Rattle.am_tree.specs.Trees.{AreTrees, terms_of}
-use Rattle.am_all.specs.AllBest.{GivesBest, Keeps, drops, ends, keeps}
+use Rattle.am_all.specs.AllBest.{GivesBest, KeepsWhere, drops, ends, keeps}
 use Rattle.am_tree.specs.Listed.{tuples_of}
 use Rattle.am_all.specs.Theorems.{HasEachBest, HasOnlyBest, IsEmptyWhereAbsent}
 use Rattle.am_all.proofs.Lists.{any-cases, any-contains, any-here, any-none, any-there}
@@ -17,7 +17,7 @@ use Rattle.am_all.proofs.TreeLaws.{tuples-listed}
 
 -- what is kept
 
-keeps-only : {A : Type 0} (P : A → Type 0) (xs ys : List A) → Keeps P xs ys → All (λ y. Contains xs y × P y) ys
+keeps-only : {A : Type 0} (P : A → Type 0) (xs ys : List A) → KeepsWhere P xs ys → All (λ y. Contains xs y × P y) ys
 keeps-only P _ _ ends = All-nil (λ y. Contains [] y × P y)
 keeps-only P _ _ (keeps {x = x} {xs = xs} {ys = ys} here rest) =
     All-cons (λ y. Contains (x ∷ xs) y × P y) x ys ((any-contains (x ∷ xs) x).1 (any-here (λ z. z ≡ x) x xs refl), here)
@@ -29,7 +29,7 @@ keeps-only P _ _ (drops {x = x} {xs = xs} {ys = ys} not rest) =
     (λ y h. ((any-contains (x ∷ xs) y).1 (any-there (λ z. z ≡ y) x xs ((any-contains xs y).0 h.0)), h.1)) ys
     (keeps-only P xs ys rest)
 
-keeps-each : {A : Type 0} (P Q : A → Type 0) (xs ys : List A) → Keeps P xs ys → Any (λ x. P x × Q x) xs → Any Q ys
+keeps-each : {A : Type 0} (P Q : A → Type 0) (xs ys : List A) → KeepsWhere P xs ys → Any (λ x. P x × Q x) xs → Any Q ys
 keeps-each P Q _ _ ends h = absurd (any-none (λ x. P x × Q x) h)
 keeps-each P Q _ _ (keeps {x = x} {xs = xs} {ys = ys} here rest) h = elim (any-cases (λ x. P x × Q x) x xs h) [
   | inl this ↦ any-here Q x ys this.1

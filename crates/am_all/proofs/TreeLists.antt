@@ -13,7 +13,7 @@ use Rattle.am_tree.specs.declared.tree.Tree.{Tree}
 use Rattle.am_tree.specs.Slots.{numbered}
 use Rattle.am_tree.specs.Trees.{Rules, tree}
 use Rattle.am_tree.specs.Listed.{choices, trees_by, trees_of}
-use Rattle.am_all.specs.inside.Levels.{AreLevels, IsTold}
+use Rattle.am_all.specs.inside.Levels.{AreLevels, IsToldLevel}
 
 -- the trees of productions that are numbered from a number on
 abbrev pub trees_from : (ℕ → List Tree) → ℕ → List Production → List Tree
@@ -93,16 +93,16 @@ trees_from-more f ps i p so_far next l is h e =
 
 -- what the last level tells
 pub levels-last : (rules : Rules) (levels below : List (List Bool)) (level : List Bool) →
-    levels ≡ below ++ level ∷ [] → AreLevels rules levels → IsTold (trees_of rules (length below)) level
+    levels ≡ below ++ level ∷ [] → AreLevels rules levels → IsToldLevel (trees_of rules (length below)) level
 levels-last rules levels below level e h =
-    let told : IsTold (trees_of rules (length below)) (get_or (below ++ level ∷ []) (length below) []) =
-    subst (λ ls. IsTold (trees_of rules (length below)) (get_or ls (length below) [])) e
+    let told : IsToldLevel (trees_of rules (length below)) (get_or (below ++ level ∷ []) (length below) []) =
+    subst (λ ls. IsToldLevel (trees_of rules (length below)) (get_or ls (length below) [])) e
     (h (length below) (omega (arith, simp length-append at (ap length e)))) in
-    subst (IsTold (trees_of rules (length below))) (get_or_push below level [] (length below) refl) told
+    subst (IsToldLevel (trees_of rules (length below))) (get_or_push below level [] (length below) refl) told
 
 -- what the levels below it tell
 pub levels-below : (rules : Rules) (levels below : List (List Bool)) (level : List Bool) →
     levels ≡ below ++ level ∷ [] → AreLevels rules levels → AreLevels rules below
 levels-below rules levels below level e h = λ d l.
-    subst (IsTold (trees_of rules d)) (ap (λ ls. get_or ls d []) e ∙ get_or_append_left below (level ∷ []) [] d l)
+    subst (IsToldLevel (trees_of rules d)) (ap (λ ls. get_or ls d []) e ∙ get_or_append_left below (level ∷ []) [] d l)
     (h d (omega (arith, l, simp length-append at (ap length e))))

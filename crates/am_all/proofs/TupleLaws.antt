@@ -19,11 +19,11 @@ use Rattle.am_tree.specs.Listed.{choices, trees_of}
 use Rattle.am_all.specs.declared.candidates.Candidate.{Candidate}
 use Rattle.am_all.specs.declared.cases.Case.{Case}
 use Rattle.am_all.specs.declared.word_set.WordSet.{WordSet}
-use Rattle.am_all.specs.inside.Candidates.{AreCandidates, IsCandidate, values_at}
+use Rattle.am_all.specs.inside.Candidates.{AreCandidates, HasCaseValues, values_at}
 use Rattle.am_all.specs.inside.Cases.{AreCases}
 use Rattle.am_all.specs.inside.Leaders.{AreFacts, AreTuples, IsResult, IsTupleOf, numbers_of, tree_numbers}
-use Rattle.am_all.specs.inside.Numbers.{number_of}
-use Rattle.am_all.specs.inside.Results.{AreNumbers}
+use Rattle.am_all.specs.inside.Numbers.{tuple_number}
+use Rattle.am_all.specs.inside.Results.{AreResultNumbers}
 use Rattle.am_all.proofs.ChoiceLaws.{choices-map, map-map}
 use Rattle.am_all.proofs.Deciding.{AreTerms, numbers-result}
 use Rattle.am_all.proofs.FitLaws.{children-fit, derived-fits, fits-cases, length-terms_at}
@@ -64,16 +64,16 @@ words-values w rules cases i d l (start ∷ starts) (c ∷ tuple) h =
 
 -- the numbers that are found are those of the terms
 pub found-numbers : (p : Problem) (cases : List Case) (tuple : List Candidate) (numbers : List ℕ) →
-    IsTupleOf p cases tuple → AreNumbers p.width tuple (length cases) numbers →
+    IsTupleOf p cases tuple → AreResultNumbers p.width tuple (length cases) numbers →
     numbers ≡ tree_numbers p cases (map (λ c. c.tree) tuple)
 found-numbers p cases tuple numbers is found =
     let terms = terms_of p.rules p.starts (map (λ (c : Candidate). c.tree) tuple) in
-    let number = λ (case : Case). number_of p.width (map (λ t. val p.width t case.fields) terms) in
+    let number = λ (case : Case). tuple_number p.width (map (λ t. val p.width t case.fields) terms) in
     ext_get_or 0 numbers (numbers_of p cases terms) (found.counted ∙ sym (length-map cases number))
     (λ i l.
     let below : i < length cases = omega (arith, l, found.counted) in
     let d : Case = record { fields = []; images = record { parts = [] } } in
-    found.each i below ∙ ap (number_of p.width) (words-values p.width p.rules cases i d below p.starts tuple is)
+    found.each i below ∙ ap (tuple_number p.width) (words-values p.width p.rules cases i d below p.starts tuple is)
     ∙ sym (get_or-map number cases i d 0 below))
 
 -- what the search for the numbers needs
@@ -83,12 +83,12 @@ pub tuple-few : (p : Problem) (cases : List Case) (tuple : List Candidate) → I
     p.width * fields_of p.kind ≤ 16 → IsTupleOf p cases tuple → p.width * length tuple ≤ 16
 tuple-few p cases tuple limits few is =
     let long : length tuple ≡ fields_of p.kind =
-    sym (zip-lengths (IsCandidate p cases) p.starts tuple is) ∙ limits.formed.start_per_field in
+    sym (zip-lengths (HasCaseValues p cases) p.starts tuple is) ∙ limits.formed.start_per_field in
     rw long few
 
 candidates-each : (p : Problem) (cases : List Case) → IsProblem p → AreCases p cases →
     (starts : List ℕ) (tuple : List Candidate) →
-    AllZip (IsCandidate p cases) starts tuple →
+    AllZip (HasCaseValues p cases) starts tuple →
     AllZip (Derives p.rules p.depth) starts (map (λ (c : Candidate). c.tree) tuple) →
     All (λ c. (length c.values ≡ length cases) × AreWords p.width c.values) tuple
 candidates-each p cases limits are [] [] is derive =
@@ -174,14 +174,14 @@ lists-trees p cases (start ∷ starts) (list ∷ lists) h =
 
 row-tuple : (p : Problem) (cases : List Case) (starts : List ℕ) (lists : List (List Candidate))
     (row : List Candidate) → AllZip (AreCandidates p cases) starts lists →
-    AllZip Contains lists row → AllZip (IsCandidate p cases) starts row
+    AllZip Contains lists row → AllZip (HasCaseValues p cases) starts row
 row-tuple p cases [] [] [] h stands = tt
 row-tuple p cases [] [] (c ∷ row) h stands = absurd stands
 row-tuple p cases [] (list ∷ lists) row h stands = absurd h
 row-tuple p cases (start ∷ starts) [] row h stands = absurd h
 row-tuple p cases (start ∷ starts) (list ∷ lists) [] h stands = absurd stands
 row-tuple p cases (start ∷ starts) (list ∷ lists) (c ∷ row) h stands = (
-  All-contains (IsCandidate p cases start) list c h.0.values stands.0,
+  All-contains (HasCaseValues p cases start) list c h.0.values stands.0,
   row-tuple p cases starts lists row h.1 stands.1,
 )
 

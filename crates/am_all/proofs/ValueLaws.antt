@@ -8,8 +8,8 @@ use Rattle.std.proofs.lemmas.List.Elements.{All-push, Contains-append_left, Cont
 use Rattle.am_problem.specs.Kinds.{fields_of, meaning_of}
 use Rattle.am_problem.specs.Problem.{Problem}
 use Rattle.am_all.specs.declared.values.Value.{Value}
-use Rattle.am_all.specs.inside.Numbers.{words_at, number_of}
-use Rattle.am_all.specs.inside.Values.{AreValues, IsValue}
+use Rattle.am_all.specs.inside.Numbers.{words_at, tuple_number}
+use Rattle.am_all.specs.inside.Values.{AreAllValues, IsAbstractValue}
 use Rattle.am_all.proofs.NumberLaws.{words_at-number_of, number_of-below}
 
 -- one word more, which is a member
@@ -35,17 +35,18 @@ without_word H M k has none c = (
 
 -- the abstract values below a number
 pub record Found (p : Problem) (values : List Value) (number : ℕ) : Type 0 where
-  pub each : All (IsValue p) values
+  pub each : All (IsAbstractValue p) values
   pub all : (n : ℕ) → n < number → (meaning_of p.kind).Valid p.width (words_at p.width (fields_of p.kind) n) →
       Contains (map (λ v. v.fields) values) (words_at p.width (fields_of p.kind) n)
 
 -- the tuple of the number is an abstract value
-pub found_valid : (p : Problem) (values : List Value) (number : ℕ) (v : Value) → Found p values number → IsValue p v →
+pub found_valid : (p : Problem) (values : List Value) (number : ℕ) (v : Value) → Found p values number → IsAbstractValue
+    p v →
     v.fields ≡ words_at p.width (fields_of p.kind) number → Found p (values ++ v ∷ []) (number + 1)
 found_valid p values number v found is e =
     let fields = λ (v : Value). v.fields in
     record {
-      each = All-push (IsValue p) values v found.each is;
+      each = All-push (IsAbstractValue p) values v found.each is;
       all = λ n below valid. elim (cases_eq n number) [
         | inl same ↦
             rw (map_push fields values v, e, same)
@@ -70,11 +71,11 @@ found_invalid p values number found none = record {
 
 -- all numbers
 pub found_all : (p : Problem) (values : List Value) (number : ℕ) → Found p values number →
-    2 ^ (p.width * fields_of p.kind) ≤ number → AreValues p values
+    2 ^ (p.width * fields_of p.kind) ≤ number → AreAllValues p values
 found_all p values number found past = record {
   each = found.each;
   all = λ a is.
-      let n = number_of p.width a in
+      let n = tuple_number p.width a in
       let below : n < 2 ^ (p.width * length a) = number_of-below p.width a is.tuple.words in
       let power : 2 ^ (p.width * length a) ≡ 2 ^ (p.width * fields_of p.kind) =
       ap (λ k. 2 ^ (p.width * k)) is.tuple.counted in

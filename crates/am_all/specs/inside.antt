@@ -4,5 +4,6 @@ pub mod Leaders
 pub mod Levels
 pub mod Numbers
 pub mod Results
+pub mod Seen
 pub mod Sets
 pub mod Values

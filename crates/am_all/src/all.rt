@@ -3,7 +3,7 @@
 ghost use Rattle.std.specs.Prelude.{◌≡◌, ◌*◌, ◌≤◌, IfOk, length};
 ghost use Rattle.am_problem.specs.Kinds.{fields_of};
 ghost use Rattle.am_all.specs.AllBest.{AreAllBest};
-ghost use Rattle.am_all.specs.Sizes.{IsSmall};
+ghost use Rattle.am_all.specs.Sizes.{IsSmallProblem};
 ghost use Rattle.am_all.specs.inside.Levels.{AreLevels};
 
 use crate::candidates::all_candidates;
@@ -22,7 +22,7 @@ use std::alloc::{AllocError, Global};
 /// then by the first child, then by the second, and so on. Two tuples with the same terms are both listed.
 /// There is none exactly where no transformer is sound.
 pub fn all_best(alloc: Global, p: &Problem) -> Result<TreeRows, AllocError>
-    requires { IsSmall p.now }
+    requires { IsSmallProblem p.now }
     ensures { IfOk result (AreAllBest p.now) }
 {
     p.keeps_limits();

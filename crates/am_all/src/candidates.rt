@@ -5,7 +5,7 @@ ghost use Rattle.std.specs.List.{AllZip};
 ghost use Rattle.am_bv.specs.Terms.{fits};
 ghost use Rattle.am_bv.specs.Words.{AreWords};
 ghost use Rattle.am_tree.specs.Trees.{Derives};
-ghost use Rattle.am_all.specs.inside.Candidates.{AreCandidates, IsCandidate, values_at};
+ghost use Rattle.am_all.specs.inside.Candidates.{AreCandidates, HasCaseValues, values_at};
 ghost use Rattle.am_all.specs.inside.Cases.{AreCases};
 ghost use Rattle.am_all.specs.inside.Levels.{AreLevels};
 
@@ -76,7 +76,7 @@ fn evaluated(
 ) -> Result<Candidate, AllocError>
     requires cases { AreCases p.now cases.now }
     requires tree { Derives p.now.rules p.now.depth start tree.now }
-    ensures { IfOk result (λ c. (c.tree ≡ tree.now) × IsCandidate p.now cases.now start c) }
+    ensures { IfOk result (λ c. (c.tree ≡ tree.now) × HasCaseValues p.now cases.now start c) }
 {
     p.keeps_limits();
     let term = p.grammar().term_of(alloc, start, tree)?;

@@ -6,8 +6,9 @@ ghost use Rattle.am_bv.specs.Terms.{val};
 ghost use Rattle.am_domain.specs.Tuple.{IsTuple};
 ghost use Rattle.am_problem.specs.Problem.{IsAssumed};
 ghost use Rattle.am_all.specs.inside.Cases.{AreCases, AreIn, AreOutcomes, AreOutcomesAt, IsCaseBy};
+ghost use Rattle.am_all.specs.inside.Seen.{seen, seen_rows};
 ghost use Rattle.am_all.specs.inside.Sets.{Has};
-ghost use Rattle.am_all.specs.inside.Values.{AreValues};
+ghost use Rattle.am_all.specs.inside.Values.{AreAllValues};
 
 use crate::choices::{Choice, choices, repeated};
 use crate::values::Value;
@@ -32,7 +33,7 @@ pub struct Case {
 
 /// The cases of all inputs.
 pub fn all_cases(alloc: Global, p: &Problem, values: &[Value]) -> Result<Row<Case>, AllocError>
-    requires { AreValues p.now values.now }
+    requires { AreAllValues p.now values.now }
     ensures { IfOk result (AreCases p.now) }
 {
     let outcomes = all_outcomes(alloc, p)?;
@@ -47,7 +48,7 @@ fn cases(
     rows: &[Choice<'_, Value>],
     outcomes: &[Outcome],
 ) -> Result<Row<Case>, AllocError>
-    ensures { IfOk result (AllZip (IsCaseBy outcomes.now) (map (λ row. map (λ v. v.now) row) rows.now)) }
+    ensures { IfOk result (AllZip (IsCaseBy outcomes.now) (seen_rows rows.now)) }
 {
     let mut cases = Row::new(alloc);
     for row in rows {
@@ -71,8 +72,8 @@ fn all_outcomes(alloc: Global, p: &Problem) -> Result<Row<Outcome>, AllocError>
 
 /// The operation's values at those rows of words at which it is used.
 fn outcomes(alloc: Global, p: &Problem, rows: &[Choice<'_, u8>]) -> Result<Row<Outcome>, AllocError>
-    requires { All (IsTuple p.now.width p.now.inputs) (map (λ row. map (λ c. c.now) row) rows.now) }
-    ensures { IfOk result (AreOutcomesAt p.now (map (λ row. map (λ c. c.now) row) rows.now)) }
+    requires { All (IsTuple p.now.width p.now.inputs) (seen_rows rows.now) }
+    ensures { IfOk result (AreOutcomesAt p.now (seen_rows rows.now)) }
 {
     let mut outcomes = Row::new(alloc);
     for row in rows {
@@ -98,7 +99,7 @@ fn all_words(alloc: Global, w: Width) -> Result<Row<u8>, AllocError>
 
 /// The same words.
 fn copied(alloc: Global, words: &[&u8]) -> Result<Row<u8>, AllocError>
-    ensures { IfOk result (λ copy. copy ≡ map (λ c. c.now) words.now) }
+    ensures { IfOk result (λ copy. copy ≡ seen words.now) }
 {
     let mut copy = Row::new(alloc);
     for c in words {
@@ -152,7 +153,7 @@ fn push_all(row: &mut Row<u8>, words: &[u8]) -> Result<(), AllocError>
 /// The operation's values at the members of the values.
 fn images(values: &[&Value], outcomes: &[Outcome]) -> WordSet
     ensures { (c : ℕ) → Has result c ↔
-        Any (λ o. AreIn (map (λ v. v.now) values.now) o.words × (c ≡ o.image)) outcomes.now }
+        Any (λ o. AreIn (seen values.now) o.words × (c ≡ o.image)) outcomes.now }
 {
     let mut images = WordSet::new();
     for outcome in outcomes {
@@ -165,7 +166,7 @@ fn images(values: &[&Value], outcomes: &[Outcome]) -> WordSet
 
 /// Whether each word is a member of the value at its place.
 fn are_in(values: &[&Value], words: &[u8]) -> bool
-    ensures { IsTrue result ↔ AreIn (map (λ v. v.now) values.now) words.now }
+    ensures { IsTrue result ↔ AreIn (seen values.now) words.now }
 {
     if values.len() != words.len() {
         return false;

@@ -3,6 +3,7 @@
 ghost use Rattle.std.specs.Prelude.{◌≡◌, ◌∷◌, ◌++◌, [], map, replicate, IfOk, OnOk};
 ghost use Rattle.std.specs.List.{flat_map};
 ghost use Rattle.am_tree.specs.Listed.{choices};
+ghost use Rattle.am_all.specs.inside.Seen.{seen, seen_rows};
 
 use am_bv::Row;
 use std::alloc::{AllocError, Global};
@@ -14,7 +15,7 @@ pub type Choice<'a, T> = Row<&'a T>;
 /// so on.
 pub fn choices<'a, T>(alloc: Global, lists: &[&'a [T]]) -> Result<Row<Choice<'a, T>>, AllocError>
     ensures { IfOk result (λ rows.
-        map (λ row. map (λ t. t.now) row) rows ≡ choices (map (λ list. list.now) lists.now)) }
+        seen_rows rows ≡ choices (seen lists.now)) }
 {
     let mut rows = Row::new(alloc);
     rows.push(Row::new(alloc))?;
@@ -30,8 +31,8 @@ fn longer<'a, T>(
     rows: &[Choice<'a, T>],
     list: &'a [T],
 ) -> Result<Row<Choice<'a, T>>, AllocError>
-    ensures { IfOk result (λ longer. map (λ row. map (λ t. t.now) row) longer ≡
-        flat_map (λ row. map (λ x. row ++ x ∷ []) list.now) (map (λ row. map (λ t. t.now) row) rows.now)) }
+    ensures { IfOk result (λ longer. seen_rows longer ≡
+        flat_map (λ row. map (λ x. row ++ x ∷ []) list.now) (seen_rows rows.now)) }
 {
     let mut longer = Row::new(alloc);
     for row in rows {
@@ -47,8 +48,8 @@ fn push_longer<'a, T>(
     row: &[&'a T],
     list: &'a [T],
 ) -> Result<(), AllocError>
-    ensures { OnOk result (map (λ row. map (λ t. t.now) row) rows.new ≡
-        map (λ row. map (λ t. t.now) row) rows.old ++ map (λ x. map (λ t. t.now) row.now ++ x ∷ []) list.now) }
+    ensures { OnOk result (seen_rows rows.new ≡
+        seen_rows rows.old ++ map (λ x. seen row.now ++ x ∷ []) list.now) }
 {
     for item in list {
         let mut longer = copied(alloc, row)?;
@@ -60,7 +61,7 @@ fn push_longer<'a, T>(
 
 /// The same items.
 fn copied<'a, T>(alloc: Global, row: &[&'a T]) -> Result<Choice<'a, T>, AllocError>
-    ensures { IfOk result (λ copy. map (λ t. t.now) copy ≡ map (λ t. t.now) row.now) }
+    ensures { IfOk result (λ copy. seen copy ≡ seen row.now) }
 {
     let mut copy = Row::new(alloc);
     for item in row {
@@ -71,7 +72,7 @@ fn copied<'a, T>(alloc: Global, row: &[&'a T]) -> Result<Choice<'a, T>, AllocErr
 
 /// The lists as slices.
 pub fn slices<'a, T>(alloc: Global, lists: &'a [Row<T>]) -> Result<Row<&'a [T]>, AllocError>
-    ensures { IfOk result (λ slices. map (λ list. list.now) slices ≡ lists.now) }
+    ensures { IfOk result (λ slices. seen slices ≡ lists.now) }
 {
     let mut slices = Row::new(alloc);
     for list in lists {
@@ -82,7 +83,7 @@ pub fn slices<'a, T>(alloc: Global, lists: &'a [Row<T>]) -> Result<Row<&'a [T]>,
 
 /// The same list so many times.
 pub fn repeated<'a, T>(alloc: Global, list: &'a [T], count: u32) -> Result<Row<&'a [T]>, AllocError>
-    ensures { IfOk result (λ lists. map (λ list. list.now) lists ≡ replicate count list.now) }
+    ensures { IfOk result (λ lists. seen lists ≡ replicate count list.now) }
 {
     let mut lists = Row::new(alloc);
     for _ in 0..count {

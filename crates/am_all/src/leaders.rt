@@ -4,12 +4,13 @@ ghost use Rattle.std.specs.Prelude.{◌≡◌, ℕ, ◌*◌, ◌<◌, ◌≤◌,
 ghost use Rattle.std.specs.List.{Any};
 ghost use Rattle.am_problem.specs.Kinds.{fields_of};
 ghost use Rattle.am_tree.specs.Trees.{AreTrees};
-ghost use Rattle.am_all.specs.AllBest.{GivesBest, Keeps};
+ghost use Rattle.am_all.specs.AllBest.{GivesBest, KeepsWhere};
 ghost use Rattle.am_tree.specs.Listed.{tuples_of};
 ghost use Rattle.am_all.specs.inside.Cases.{AreCases};
-ghost use Rattle.am_all.specs.inside.Leaders.{AreFacts, AreJoined, AreLeaders, AreTuples, IsLeading, IsLed};
+ghost use Rattle.am_all.specs.inside.Leaders.{AreFacts, AreJoinedLeaders, AreLeaders, AreTuples, IsLeading, IsLed};
 ghost use Rattle.am_all.specs.inside.Leaders.{IsResult, IsTupleOf, all_numbers, tree_numbers};
-ghost use Rattle.am_all.specs.inside.Results.{IsBeyond, IsInside};
+ghost use Rattle.am_all.specs.inside.Results.{IsBeyond, IsResultInside};
+ghost use Rattle.am_all.specs.inside.Seen.{seen, seen_rows};
 
 use crate::candidates::Candidate;
 use crate::cases::Case;
@@ -31,7 +32,7 @@ pub fn leaders(
     tuples: &[Choice<'_, Candidate>],
 ) -> Result<Vec<Numbers>, AllocError>
     requires facts { AreFacts p.now sets.now cases.now }
-    requires tuples { AreTuples p.now cases.now (map (λ tuple. map (λ c. c.now) tuple) tuples.now) }
+    requires tuples { AreTuples p.now cases.now (seen_rows tuples.now) }
     ensures { IfOk result (λ leaders. AreLeaders cases.now sets.now (all_numbers p.now cases.now) leaders.items) }
 {
     p.keeps_limits();
@@ -74,7 +75,7 @@ fn results(
 ) -> Result<Numbers, AllocError>
     requires few { p.now.width * fields_of p.now.kind ≤ 16 }
     requires cases { AreCases p.now cases.now }
-    requires tuple { IsTupleOf p.now cases.now (map (λ c. c.now) tuple.now) }
+    requires tuple { IsTupleOf p.now cases.now (seen tuple.now) }
     requires trees { AreTrees p.now.rules p.now.starts p.now.depth (map (λ c. c.now.tree) tuple.now) }
     ensures { IfOk result (λ numbers. numbers ≡ tree_numbers p.now cases.now (map (λ c. c.now.tree) tuple.now)) }
 {
@@ -86,7 +87,7 @@ fn results(
 fn is_led(sets: &[WordSet], leaders: &[Numbers], numbers: &[u16]) -> bool
     requires leaders { All (IsResult (length numbers.now) (length sets.now)) leaders.now }
     requires result { All (λ n. n < length sets.now) numbers.now }
-    ensures { MatchBool result (Any (λ leader. IsInside sets.now leader numbers.now) leaders.now)
+    ensures { MatchBool result (Any (λ leader. IsResultInside sets.now leader numbers.now) leaders.now)
         (All (λ leader. IsBeyond sets.now leader numbers.now) leaders.now) }
 {
     for leader in leaders {
@@ -106,7 +107,7 @@ fn with_leader(
 ) -> Result<Vec<Numbers>, AllocError>
     requires leaders { All (IsResult (length numbers) (length sets.now)) leaders.items }
     requires result { All (λ n. n < length sets.now) numbers }
-    ensures { IfOk result (λ joined. AreJoined sets.now leaders.items numbers joined.items) }
+    ensures { IfOk result (λ joined. AreJoinedLeaders sets.now leaders.items numbers joined.items) }
 {
     let mut rest = leaders;
     let mut joined = Vec::new(alloc);
@@ -130,9 +131,9 @@ pub fn best(
     leaders: &[Numbers],
 ) -> Result<TreeRows, AllocError>
     requires facts { AreFacts p.now sets.now cases.now }
-    requires tuples { AreTuples p.now cases.now (map (λ tuple. map (λ c. c.now) tuple) tuples.now) }
+    requires tuples { AreTuples p.now cases.now (seen_rows tuples.now) }
     requires leaders { AreLeaders cases.now sets.now (all_numbers p.now cases.now) leaders.now }
-    ensures { IfOk result (Keeps (GivesBest p.now) (tuples_of p.now.rules p.now.starts p.now.depth)) }
+    ensures { IfOk result (KeepsWhere (GivesBest p.now) (tuples_of p.now.rules p.now.starts p.now.depth)) }
 {
     p.keeps_limits();
     let mut best = Row::new(alloc);

@@ -3,7 +3,7 @@
 ghost use Rattle.std.specs.Prelude.{ℕ, suc, ◌≡◌, ◌+◌, false, List, [], All, IfOk, length, map};
 ghost use Rattle.am_tree.specs.declared.tree.Tree.{Tree};
 ghost use Rattle.am_tree.specs.Listed.{choices, trees_by, trees_of};
-ghost use Rattle.am_all.specs.inside.Levels.{AreLevels, IsTold};
+ghost use Rattle.am_all.specs.inside.Levels.{AreLevels, IsToldLevel};
 
 use am_bv::Row;
 use am_tree::{Grammar, Production, Productions};
@@ -30,7 +30,7 @@ pub fn levels(alloc: Global, grammar: &Grammar) -> Result<Row<Level>, AllocError
 
 /// With depth 0 no nonterminal has a tree.
 fn lowest(alloc: Global, rules: &[Productions]) -> Result<Level, AllocError>
-    ensures { IfOk result (IsTold (trees_of rules.now 0)) }
+    ensures { IfOk result (IsToldLevel (trees_of rules.now 0)) }
 {
     let mut level = Row::new(alloc);
     for _ in rules {
@@ -41,8 +41,8 @@ fn lowest(alloc: Global, rules: &[Productions]) -> Result<Level, AllocError>
 
 /// The level of one depth more.
 fn above(alloc: Global, rules: &[Productions], below: &[bool]) -> Result<Level, AllocError>
-    ensures { IfOk result (λ level. (d : ℕ) → IsTold (trees_of rules.now d) below.now →
-        IsTold (trees_of rules.now (suc d)) level) }
+    ensures { IfOk result (λ level. (d : ℕ) → IsToldLevel (trees_of rules.now d) below.now →
+        IsToldLevel (trees_of rules.now (suc d)) level) }
 {
     let mut level = Row::new(alloc);
     for productions in rules {
@@ -53,7 +53,7 @@ fn above(alloc: Global, rules: &[Productions], below: &[bool]) -> Result<Level, 
 
 /// Whether one of the productions may have a tree whose children have the depth of the level.
 fn has_tree(productions: &[Production], below: &[bool]) -> bool
-    ensures { result ≡ false → (f : ℕ → List Tree) → IsTold f below.now →
+    ensures { result ≡ false → (f : ℕ → List Tree) → IsToldLevel f below.now →
         All (λ p. (i : ℕ) → trees_by f i p ≡ []) productions.now }
 {
     for production in productions {
@@ -71,7 +71,7 @@ fn has_tree(productions: &[Production], below: &[bool]) -> bool
 
 /// Whether each of the nonterminals may have a tree.
 pub fn have_trees(names: &[u32], level: &[bool]) -> bool
-    ensures { result ≡ false → (f : ℕ → List Tree) → IsTold f level.now → choices (map f names.now) ≡ [] }
+    ensures { result ≡ false → (f : ℕ → List Tree) → IsToldLevel f level.now → choices (map f names.now) ≡ [] }
 {
     for name in names {
         if let Some(false) = level.get(*name as usize) {

@@ -4,7 +4,7 @@ ghost use Rattle.std.specs.Prelude.{◌≡◌, ◌<◌, ◌++◌, IfOk, IsTrue, 
 ghost use Rattle.am_tree.specs.Grammars.{is_production};
 ghost use Rattle.am_tree.specs.Trees.{tree};
 ghost use Rattle.am_tree.specs.Listed.{choices, trees_by, trees_of};
-ghost use Rattle.am_all.specs.inside.Levels.{AreLevels, IsTold};
+ghost use Rattle.am_all.specs.inside.Levels.{AreLevels, IsToldLevel};
 
 use crate::choices::{choices, slices};
 use crate::levels::{Level, have_trees};
@@ -61,7 +61,7 @@ fn push_trees(
     trees: &mut Trees,
 ) -> Result<(), AllocError>
     requires production { IsTrue (is_production (length grammar.now.rules) production.now) }
-    requires level { IsTold (trees_of grammar.now.rules (length below.now)) level.now }
+    requires level { IsToldLevel (trees_of grammar.now.rules (length below.now)) level.now }
     requires levels { AreLevels grammar.now.rules below.now }
     ensures { OnOk result (trees.new ≡
         trees.old ++ trees_by (trees_of grammar.now.rules (length below.now)) number production.now) }

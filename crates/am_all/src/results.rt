@@ -2,8 +2,9 @@
 
 ghost use Rattle.std.specs.Prelude.{◌≡◌, ◌*◌, ◌<◌, ◌≤◌, All, IfOk, MatchBool, length, map, slice_index};
 ghost use Rattle.am_bv.specs.Words.{AreWords};
-ghost use Rattle.am_all.specs.inside.Numbers.{number_of};
-ghost use Rattle.am_all.specs.inside.Results.{AreNumbers, IsBeyond, IsCovering, IsInside, IsMissing};
+ghost use Rattle.am_all.specs.inside.Numbers.{tuple_number};
+ghost use Rattle.am_all.specs.inside.Results.{AreResultNumbers, IsBeyond, IsCovering, IsMissing, IsResultInside};
+ghost use Rattle.am_all.specs.inside.Seen.{seen};
 
 use crate::candidates::Candidate;
 use crate::cases::Case;
@@ -24,7 +25,7 @@ pub fn numbers(
     requires few { w * length tuple.now ≤ 16 }
     requires long { All (λ c. length c.now.values ≡ count) tuple.now }
     requires words { All (λ c. AreWords w c.now.values) tuple.now }
-    ensures { IfOk result (AreNumbers w (map (λ c. c.now) tuple.now) count) }
+    ensures { IfOk result (AreResultNumbers w (seen tuple.now) count) }
 {
     let mut numbers = Row::new(alloc);
     for i in 0..count {
@@ -38,7 +39,7 @@ fn number_at(w: Width, tuple: &[&Candidate], i: usize) -> u16
     requires few { w * length tuple.now ≤ 16 }
     requires long { All (λ c. i < length c.now.values) tuple.now }
     requires words { All (λ c. AreWords w c.now.values) tuple.now }
-    ensures { result ≡ number_of w (map (λ c. slice_index c.now.values i) tuple.now) }
+    ensures { result ≡ tuple_number w (map (λ c. slice_index c.now.values i) tuple.now) }
 {
     let base = u32::from(w.mask()) + 1;
     let mut number = 0;
@@ -67,7 +68,7 @@ pub fn is_inside(sets: &[WordSet], inner: &[u16], outer: &[u16]) -> bool
     requires long { length outer.now ≡ length inner.now }
     requires first { All (λ n. n < length sets.now) inner.now }
     requires second { All (λ n. n < length sets.now) outer.now }
-    ensures { MatchBool result (IsInside sets.now inner.now outer.now) (IsBeyond sets.now inner.now outer.now) }
+    ensures { MatchBool result (IsResultInside sets.now inner.now outer.now) (IsBeyond sets.now inner.now outer.now) }
 {
     for (i, number) in inner.iter().enumerate() {
         let other = outer[i];

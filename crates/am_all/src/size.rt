@@ -1,7 +1,7 @@
 //! Which problems are small enough to go through all their transformers and inputs.
 
 ghost use Rattle.std.specs.Prelude.{MatchResult};
-ghost use Rattle.am_all.specs.Sizes.{IsSmall, IsTooGreat};
+ghost use Rattle.am_all.specs.Sizes.{IsSmallProblem, IsTooGreat};
 
 use am_domain::Domain;
 use am_problem::Problem;
@@ -17,7 +17,7 @@ pub const MOST_TUPLES: u128 = 4096;
 /// bits; else with `Many`, where there are more than 4,096 tuples of trees. `Many` tells their number, or
 /// 2^64 - 1 where there are more. Takes no memory.
 pub fn small(p: &Problem) -> Result<(), Refusal>
-    ensures { MatchResult result (λ _. IsSmall p.now) (IsTooGreat p.now) }
+    ensures { MatchResult result (λ _. IsSmallProblem p.now) (IsTooGreat p.now) }
 {
     p.keeps_limits();
     let bits = p.width().bits() * p.inputs() * p.kind().fields();

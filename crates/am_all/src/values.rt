@@ -4,7 +4,7 @@ ghost use Rattle.std.specs.Prelude.{◌≡◌, ◌*◌, ◌^◌, ◌<◌, ◌≤
 ghost use Rattle.am_domain.specs.Tuple.{IsTuple};
 ghost use Rattle.am_problem.specs.Kinds.{fields_of};
 ghost use Rattle.am_all.specs.inside.Numbers.{words_at};
-ghost use Rattle.am_all.specs.inside.Values.{AreAllMembers, AreValues, HasMembers};
+ghost use Rattle.am_all.specs.inside.Values.{AreAllMembers, AreAllValues, IsMemberSet};
 
 use crate::word_set::WordSet;
 use am_bv::{Row, Width};
@@ -40,7 +40,7 @@ pub fn abstract_values(
 ) -> Result<Row<Value>, AllocError>
     requires small { p.now.width * fields_of p.now.kind ≤ 16 }
     requires sets { AreAllMembers p.now sets.now }
-    ensures { IfOk result (AreValues p.now) }
+    ensures { IfOk result (AreAllValues p.now) }
 {
     let (w, kind) = (p.width(), p.kind());
     let mut values = Row::new(alloc);
@@ -59,7 +59,7 @@ pub fn abstract_values(
 /// The members of a tuple.
 fn members(p: &Problem, fields: &Fields) -> WordSet
     requires { IsTuple p.now.width (fields_of p.now.kind) fields.now }
-    ensures { HasMembers p.now fields.now result }
+    ensures { IsMemberSet p.now fields.now result }
 {
     let (w, kind) = (p.width(), p.kind());
     let mut members = WordSet::new();

@@ -12,8 +12,8 @@ use Rattle.am_domain.specs.Abstraction.{Abstraction}
 use Rattle.am_domain.specs.Meaning.{Meaning}
 
 -- the bits that are known to be 0
-abbrev pub zeros : List ℕ → ℕ
-zeros a = slice_index a 0
+abbrev pub known_zeros : List ℕ → ℕ
+known_zeros a = slice_index a 0
 
 -- the bits that are known to be 1
 abbrev pub ones : List ℕ → ℕ
@@ -21,11 +21,11 @@ ones a = slice_index a 1
 
 -- no bit is in both
 abbrev pub IsKnown : List ℕ → Type 0
-IsKnown a = (i : ℕ) → ¬ ((bit_at (zeros a) i ≡ 1) × (bit_at (ones a) i ≡ 1))
+IsKnown a = (i : ℕ) → ¬ ((bit_at (known_zeros a) i ≡ 1) × (bit_at (ones a) i ≡ 1))
 
 -- the word is 0 on the bits of zeros and 1 on the bits of ones
 pub record HasKnown (a : List ℕ) (c : ℕ) : Type 0 where
-  pub clear : (i : ℕ) → bit_at (zeros a) i ≡ 1 → bit_at c i ≡ 0
+  pub clear : (i : ℕ) → bit_at (known_zeros a) i ≡ 1 → bit_at c i ≡ 0
   pub set : (i : ℕ) → bit_at (ones a) i ≡ 1 → bit_at c i ≡ 1
 
 -- the domain of known bits
@@ -42,15 +42,15 @@ known_of_word w c = complement w c ∷ c ∷ []
 
 -- what is known of both
 abbrev pub known_join : List ℕ → List ℕ → List ℕ
-known_join a b = bit_and (zeros a) (zeros b) ∷ bit_and (ones a) (ones b) ∷ []
+known_join a b = bit_and (known_zeros a) (known_zeros b) ∷ bit_and (ones a) (ones b) ∷ []
 
 -- the same where no bit is in both
 abbrev pub known_tidy : List ℕ → Option (List ℕ)
-known_tidy raw = if bit_and (zeros raw) (ones raw) == 0 then Some raw else None
+known_tidy raw = if bit_and (known_zeros raw) (ones raw) == 0 then Some raw else None
 
 -- how many bits are known
 abbrev pub known_rank : List ℕ → ℕ
-known_rank a = count_ones (zeros a) + count_ones (ones a)
+known_rank a = count_ones (known_zeros a) + count_ones (ones a)
 
 -- no bit is in both
 abbrev pub known_valid_term : Term

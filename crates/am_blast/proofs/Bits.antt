@@ -15,7 +15,7 @@ use Rattle.am_lit.specs.Truth.{literal_value}
 use Rattle.am_blast.specs.declared.bitwise.Gate.{Gate}
 use Rattle.am_blast.specs.declared.bitwise.Gate.TheVariants.{Both, Either, Differ, Choose}
 use Rattle.am_blast.specs.Words.{bit, reads, ReadsAs, IsWord}
-use Rattle.am_blast.specs.Bitwise.{either, gate_of, bitwise, choice, IsOver}
+use Rattle.am_blast.specs.Bitwise.{either, gate_of, bitwise, choice, IsGateOver}
 use Rattle.am_blast.proofs.Words.{first_inside, others_inside, All-later, drop-from}
 
 -- at least one of two literals
@@ -80,21 +80,21 @@ Makes-either a b p ha hb =
     refl
     (λ neither q l h. Makes-answer _ (IsLiteral-opposite q.next neither h))
 
-Makes-gate : (g : Gate) (a b : ℕ) (p : Place) → IsOver p.next g → IsLiteral p.next a → IsLiteral p.next b →
+Makes-gate : (g : Gate) (a b : ℕ) (p : Place) → IsGateOver p.next g → IsLiteral p.next a → IsLiteral p.next b →
     MakesGates (gate_of g a b) 1 IsLiteral p
 Makes-gate Both a b p h ha hb = Makes-and a b p ha hb
 Makes-gate Either a b p h ha hb = Makes-either a b p ha hb
 Makes-gate Differ a b p h ha hb = Makes-xor a b p ha hb
 Makes-gate (Choose c) a b p h ha hb = Makes-mux c a b p h ha hb
 
-IsOver-later : (g : Gate) (m n : ℕ) → m ≤ n → IsOver m g → IsOver n g
-IsOver-later Both m n l h = tt
-IsOver-later Either m n l h = tt
-IsOver-later Differ m n l h = tt
-IsOver-later (Choose c) m n l h = omega arith
+IsGateOver-later : (g : Gate) (m n : ℕ) → m ≤ n → IsGateOver m g → IsGateOver n g
+IsGateOver-later Both m n l h = tt
+IsGateOver-later Either m n l h = tt
+IsGateOver-later Differ m n l h = tt
+IsGateOver-later (Choose c) m n l h = omega arith
 
 -- a gate for each bit
-pub Makes-bitwise : (g : Gate) (xs ys : List ℕ) (p : Place) → length ys ≡ length xs → IsOver p.next g →
+pub Makes-bitwise : (g : Gate) (xs ys : List ℕ) (p : Place) → length ys ≡ length xs → IsGateOver p.next g →
     All (IsLiteral p.next) xs → All (IsLiteral p.next) ys →
     MakesGates (bitwise g xs ys) (length xs) (IsWord (length xs)) p
 unfolding bitwise
@@ -105,7 +105,7 @@ Makes-bitwise g (x ∷ xs) (y ∷ ys) p e h hx hy =
     Makes-bind _ (length xs) (Makes-gate g x y p h (first_inside p.next x xs hx) (first_inside p.next y ys hy))
     (omega arith)
     (λ first q l f. Makes-bind _ 0
-    (Makes-bitwise g xs ys q (omega arith) (IsOver-later g p.next q.next (omega arith) h)
+    (Makes-bitwise g xs ys q (omega arith) (IsGateOver-later g p.next q.next (omega arith) h)
     (others_inside p.next q.next x xs (omega arith) hx) (others_inside p.next q.next y ys (omega arith) hy))
     (omega arith)
     (λ rest r k s. Makes-answer _ (record {

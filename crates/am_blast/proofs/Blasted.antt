@@ -10,10 +10,9 @@ use Rattle.std.proofs.lemmas.Bool.Decides.{nat_tests}
 use Rattle.std.proofs.lemmas.List.{drop_all}
 use Rattle.std.proofs.lemmas.List.Sums.{sum_by-cons}
 use Rattle.std.proofs.lemmas.List.Elements.{All-nil, All-cons}
-use Rattle.am_gate.specs.Circuit.{Net, truth, falsity, AreScoped, IsLiteral}
-use Rattle.am_gate.specs.Value.{Meets}
-use Rattle.am_gate.specs.Build.{Step, Place, place_of, AreGates, ◌>>=◌, answer, Means, Follows}
-use Rattle.am_gate.proofs.Laws.{Makes-extend, Means-bind, Means-answer, Means-truth, Follows-bind, Follows-answer}
+use Rattle.am_gate.specs.Circuit.{Net, truth, falsity, IsLiteral}
+use Rattle.am_gate.specs.Build.{Step, Place, place_of, ◌>>=◌, answer, Means, Follows}
+use Rattle.am_gate.proofs.Laws.{Means-bind, Means-answer, Means-truth, Follows-bind, Follows-answer}
 use Rattle.am_gate.proofs.Laws.{Makes-bind, Makes-answer, Makes-exactly}
 use Rattle.am_gate.specs.Promises.{MakesGates}
 use Rattle.am_lit.specs.Truth.{literal_value}
@@ -220,19 +219,6 @@ module _ (w : ℕ) (one : 1 ≤ w) (fields : List (List ℕ)) (t : Term) (n : Ne
     (truth : 0 < n.vars) (words : All (IsWord w n.vars) fields) where
   its : MakesGates (blasted w fields t) (weight w t) (IsWord w) (place_of n)
   its = Makes-blasted w one fields t fit (place_of n) truth words
-
-  -- the events of a term are gates
-  pub its_gates : AreGates (blasted w fields t (place_of n)).events
-  its_gates = its.gates
-
-  -- the gates of a term stand over earlier variables
-  pub its_scope : AreScoped n.vars (blasted w fields t (place_of n)).events
-  its_scope = its.scoped
-
-  -- values of the earlier variables extend to values that the gates meet
-  pub its_values : (v : ℕ → Bool) →
-      (u : ℕ → Bool) × ((x : ℕ) → x < n.vars → u x ≡ v x) × Meets u n.vars (blasted w fields t (place_of n)).events
-  its_values v = Makes-extend v its
 
   -- a circuit that doesn't fold makes as many gates as the term weighs
   pub its_count : (r : List ℕ) (new : Net) → n.folding ≡ false → Follows (blasted w fields t) n r new →

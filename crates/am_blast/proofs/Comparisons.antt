@@ -19,7 +19,7 @@ use Rattle.am_lit.specs.Literal.{opposite_of}
 use Rattle.am_lit.specs.Truth.{literal_value}
 use Rattle.am_bv.specs.declared.op.Op.TheVariants.{Ult, Ule, Slt, Sle, Umin, Umax, Smin, Smax}
 use Rattle.am_bv.specs.Words.{signed}
-use Rattle.am_blast.specs.Words.{bit, reads, ReadsAs, IsWord, AreWords, opposites, sign_turned}
+use Rattle.am_blast.specs.Words.{bit, reads, ReadsAs, IsWord, AreWordPair, opposites, sign_turned}
 use Rattle.am_blast.specs.Bitwise.{choice}
 use Rattle.am_blast.specs.Sums.{adder, carry_of}
 use Rattle.am_blast.specs.Comparisons.{below, most}
@@ -164,8 +164,9 @@ length-sign_turned xs =
     ∙ ap length (take-append-drop (length xs - 1) xs)
 
 -- two words with their signs turned are two words
-pub AreWords-sign_turned : (n : ℕ) (xs ys : List ℕ) → AreWords n xs ys → AreWords n (sign_turned xs) (sign_turned ys)
-AreWords-sign_turned n xs ys h = record {
+pub AreWordPair-sign_turned : (n : ℕ) (xs ys : List ℕ) → AreWordPair n xs ys → AreWordPair n (sign_turned xs)
+    (sign_turned ys)
+AreWordPair-sign_turned n xs ys h = record {
   lengths = length-sign_turned ys ∙ h.lengths ∙ sym (length-sign_turned xs);
   first = All-sign_turned n xs h.first;
   second = All-sign_turned n ys h.second;

@@ -2,8 +2,8 @@
 use Rattle.std.proofs.Common.{ℕ, ◌+◌, ◌≤◌, List, length, arith}
 use Rattle.am_gate.specs.Circuit.{Net, IsLiteral}
 use Rattle.am_gate.specs.Build.{Step}
-use Rattle.am_gate.specs.Promises.{Gives}
-use Rattle.am_gate.proofs.Laws.{Gives-bind, Gives-answer}
+use Rattle.am_gate.specs.Promises.{GivesStep}
+use Rattle.am_gate.proofs.Laws.{GivesStep-bind, GivesStep-answer}
 use Rattle.am_blast.specs.declared.bitwise.Gate.TheVariants.{Choose}
 use Rattle.am_blast.specs.Words.{IsWord, flag}
 use Rattle.am_blast.specs.Bitwise.{bitwise, choice}
@@ -11,15 +11,16 @@ use Rattle.am_blast.specs.Comparisons.{flagged}
 use Rattle.am_blast.proofs.Words.{IsWord-flag}
 
 -- a test, and then the word that it chooses
-pub Gives-choice : {test : Step ℕ} {j l : ℕ} {r : List ℕ} {old mid new : Net} (xs ys : List ℕ) →
-    Gives test j IsLiteral old l mid → Gives (bitwise (Choose l) xs ys) (length xs) (IsWord (length xs)) mid r new →
-    Gives (choice test xs ys) (j + length xs) (IsWord (length xs)) old r new
+pub GivesStep-choice : {test : Step ℕ} {j l : ℕ} {r : List ℕ} {old mid new : Net} (xs ys : List ℕ) →
+    GivesStep test j IsLiteral old l mid → GivesStep (bitwise (Choose l) xs ys) (length xs) (IsWord (length xs)) mid r
+    new →
+    GivesStep (choice test xs ys) (j + length xs) (IsWord (length xs)) old r new
 unfolding choice
-Gives-choice xs ys one two = Gives-bind _ one two (omega arith)
+GivesStep-choice xs ys one two = GivesStep-bind _ one two (omega arith)
 
 -- a test as a word
-pub Gives-flagged : {test : Step ℕ} {j l : ℕ} {old new : Net} (w : ℕ) → 1 ≤ w →
-    Gives test j IsLiteral old l new → Gives (flagged w test) j (IsWord w) old (flag w l) new
+pub GivesStep-flagged : {test : Step ℕ} {j l : ℕ} {old new : Net} (w : ℕ) → 1 ≤ w →
+    GivesStep test j IsLiteral old l new → GivesStep (flagged w test) j (IsWord w) old (flag w l) new
 unfolding flagged
-Gives-flagged {l = l} {new = new} w one h =
-    Gives-bind _ h (Gives-answer (IsWord-flag w new.vars l one (omega (arith, h.given)) h.given)) (omega arith)
+GivesStep-flagged {l = l} {new = new} w one h =
+    GivesStep-bind _ h (GivesStep-answer (IsWord-flag w new.vars l one (omega (arith, h.given)) h.given)) (omega arith)

@@ -14,7 +14,7 @@ use Rattle.am_gate.proofs.Laws.{IsLiteral-opposite, literal_value-even, literal_
 use Rattle.am_lit.specs.Literal.{opposite_of}
 use Rattle.am_lit.specs.Truth.{literal_value}
 use Rattle.am_bv.specs.Words.{complement}
-use Rattle.am_blast.specs.Words.{bit, reads, IsWord, AreWords, opposites, zeros, flag, sign_turned}
+use Rattle.am_blast.specs.Words.{bit, reads, IsWord, AreWordPair, opposites, zeros, flag, sign_turned}
 
 pub bit-not : (b : Bool) → bit (not b) + bit b ≡ 1
 bit-not true = refl
@@ -114,21 +114,21 @@ IsWord-opposites w n xs h = record { bits = length-map xs opposite_of ∙ h.bits
 -- two words of as many literals
 
 -- words of one length
-pub AreWords-alike : (w n : ℕ) (xs ys : List ℕ) → IsWord w n xs → IsWord w n ys → AreWords n xs ys
-AreWords-alike w n xs ys hx hy = record { lengths = hy.bits ∙ sym hx.bits; first = hx.inside; second = hy.inside }
+pub AreWordPair-alike : (w n : ℕ) (xs ys : List ℕ) → IsWord w n xs → IsWord w n ys → AreWordPair n xs ys
+AreWordPair-alike w n xs ys hx hy = record { lengths = hy.bits ∙ sym hx.bits; first = hx.inside; second = hy.inside }
 
 -- two words are two words in either order
-pub AreWords-swapped : (n : ℕ) (xs ys : List ℕ) → AreWords n xs ys → AreWords n ys xs
-AreWords-swapped n xs ys h = record { lengths = sym h.lengths; first = h.second; second = h.first }
+pub AreWordPair-swapped : (n : ℕ) (xs ys : List ℕ) → AreWordPair n xs ys → AreWordPair n ys xs
+AreWordPair-swapped n xs ys h = record { lengths = sym h.lengths; first = h.second; second = h.first }
 
 -- two words stay two words within a later bound
-pub AreWords-later : (n m : ℕ) (xs ys : List ℕ) → n ≤ m → AreWords n xs ys → AreWords m xs ys
-AreWords-later n m xs ys l h =
+pub AreWordPair-later : (n m : ℕ) (xs ys : List ℕ) → n ≤ m → AreWordPair n xs ys → AreWordPair m xs ys
+AreWordPair-later n m xs ys l h =
     record { lengths = h.lengths; first = All-later n m xs l h.first; second = All-later n m ys l h.second }
 
 -- a word and the opposites of another are two words
-pub AreWords-opposites : (n : ℕ) (xs ys : List ℕ) → AreWords n xs ys → AreWords n xs (opposites ys)
-AreWords-opposites n xs ys h =
+pub AreWordPair-opposites : (n : ℕ) (xs ys : List ℕ) → AreWordPair n xs ys → AreWordPair n xs (opposites ys)
+AreWordPair-opposites n xs ys h =
     record { lengths = length-map ys opposite_of ∙ h.lengths; first = h.first; second = All-opposites n ys h.second }
 
 -- a word with its sign turned has literals

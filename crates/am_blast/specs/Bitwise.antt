@@ -20,11 +20,11 @@ gate_of Differ a b = ask (Xor a b)
 gate_of (Choose c) a b = ask (Mux c a b)
 
 -- the literal that chooses is one of a variable below a number
-abbrev pub IsOver : ℕ → Gate → Type 0
-IsOver vars Both = Unit {0}
-IsOver vars Either = Unit {0}
-IsOver vars Differ = Unit {0}
-IsOver vars (Choose c) = IsLiteral vars c
+abbrev pub IsGateOver : ℕ → Gate → Type 0
+IsGateOver vars Both = Unit {0}
+IsGateOver vars Either = Unit {0}
+IsGateOver vars Differ = Unit {0}
+IsGateOver vars (Choose c) = IsLiteral vars c
 
 -- the gate of each two bits at the same place
 unfoldable pub bitwise : Gate → List ℕ → List ℕ → Step (List ℕ)

@@ -7,3 +7,4 @@ pub mod Shifts
 pub mod Division
 pub mod Circuits
 pub mod Promises
+pub mod Theorems

@@ -25,7 +25,7 @@ pub record IsWord (w vars : ℕ) (word : List ℕ) : Type 0 where
   pub inside : All (IsLiteral vars) word
 
 -- two words of as many literals, of variables below a number
-pub record AreWords (vars : ℕ) (a b : List ℕ) : Type 0 where
+pub record AreWordPair (vars : ℕ) (a b : List ℕ) : Type 0 where
   pub lengths : length b ≡ length a
   pub first : All (IsLiteral vars) a
   pub second : All (IsLiteral vars) b

@@ -2,9 +2,9 @@
 
 ghost use Rattle.std.specs.Prelude.{IfOk, length};
 ghost use Rattle.am_gate.specs.Circuit.{IsLiteral, HasRoom, Begins};
-ghost use Rattle.am_blast.specs.Words.{AreWords, IsWord};
-ghost use Rattle.am_blast.specs.Bitwise.{bitwise, either, gate_of, IsOver};
-ghost use Rattle.am_gate.specs.Promises.{Gives};
+ghost use Rattle.am_blast.specs.Words.{AreWordPair, IsWord};
+ghost use Rattle.am_blast.specs.Bitwise.{bitwise, either, gate_of, IsGateOver};
+ghost use Rattle.am_gate.specs.Promises.{GivesStep};
 
 use crate::word::WordLits;
 use am_gate::Circuit;
@@ -27,10 +27,10 @@ pub enum Gate {
 impl Gate {
     fn make(&self, circuit: &mut Circuit, a: Lit, b: Lit) -> Result<Lit, AllocError>
         requires room { HasRoom 1 circuit.old }
-        requires gate { IsOver circuit.old.vars self.now }
+        requires gate { IsGateOver circuit.old.vars self.now }
         requires first { IsLiteral circuit.old.vars a }
         requires second { IsLiteral circuit.old.vars b }
-        ensures ok { IfOk result (λ r. Gives (gate_of self.now a b) 1 IsLiteral circuit.old r circuit.new) }
+        ensures ok { IfOk result (λ r. GivesStep (gate_of self.now a b) 1 IsLiteral circuit.old r circuit.new) }
         ensures begins { Begins circuit.old circuit.new }
     {
         match self {
@@ -47,7 +47,7 @@ pub(crate) fn either(circuit: &mut Circuit, a: Lit, b: Lit) -> Result<Lit, Alloc
     requires room { HasRoom 1 circuit.old }
     requires first { IsLiteral circuit.old.vars a }
     requires second { IsLiteral circuit.old.vars b }
-    ensures ok { IfOk result (λ r. Gives (either a b) 1 IsLiteral circuit.old r circuit.new) }
+    ensures ok { IfOk result (λ r. GivesStep (either a b) 1 IsLiteral circuit.old r circuit.new) }
     ensures begins { Begins circuit.old circuit.new }
 {
     let neither = circuit.and(a.opposite(), b.opposite())?;
@@ -63,11 +63,11 @@ pub fn at_each_bit(
     a: &[Lit],
     b: &[Lit],
 ) -> Result<WordLits, AllocError>
-    requires words { AreWords circuit.old.vars a.now b.now }
+    requires words { AreWordPair circuit.old.vars a.now b.now }
     requires room { HasRoom (length a.now) circuit.old }
-    requires gate { IsOver circuit.old.vars gate }
+    requires gate { IsGateOver circuit.old.vars gate }
     ensures ok { IfOk result (λ r.
-        Gives (bitwise gate a.now b.now) (length a.now)
+        GivesStep (bitwise gate a.now b.now) (length a.now)
         (IsWord (length a.now)) circuit.old r circuit.new) }
     ensures begins { Begins circuit.old circuit.new }
 {

@@ -2,9 +2,9 @@
 
 ghost use Rattle.std.specs.Prelude.{◌≡◌, ◌*◌, IfOk, All, length};
 ghost use Rattle.am_gate.specs.Circuit.{IsLiteral, HasRoom, Begins};
-ghost use Rattle.am_blast.specs.Words.{AreWords, sign_turned};
+ghost use Rattle.am_blast.specs.Words.{AreWordPair, sign_turned};
 ghost use Rattle.am_blast.specs.Comparisons.{below, most};
-ghost use Rattle.am_gate.specs.Promises.{Gives};
+ghost use Rattle.am_gate.specs.Promises.{GivesStep};
 
 use crate::sum::add_words;
 use crate::word::{WordLits, copied, opposites};
@@ -19,10 +19,10 @@ pub(crate) fn is_below(
     a: &[Lit],
     b: &[Lit],
 ) -> Result<Lit, AllocError>
-    requires words { AreWords circuit.old.vars a.now b.now }
+    requires words { AreWordPair circuit.old.vars a.now b.now }
     requires room { HasRoom (3 * length a.now) circuit.old }
     ensures ok { IfOk result (λ r.
-        Gives (below a.now b.now) (3 * length a.now) IsLiteral circuit.old r circuit.new) }
+        GivesStep (below a.now b.now) (3 * length a.now) IsLiteral circuit.old r circuit.new) }
     ensures begins { Begins circuit.old circuit.new }
 {
     let carry = is_at_most(alloc, circuit, b, a)?;
@@ -36,10 +36,10 @@ pub(crate) fn is_at_most(
     a: &[Lit],
     b: &[Lit],
 ) -> Result<Lit, AllocError>
-    requires words { AreWords circuit.old.vars a.now b.now }
+    requires words { AreWordPair circuit.old.vars a.now b.now }
     requires room { HasRoom (3 * length a.now) circuit.old }
     ensures ok { IfOk result (λ r.
-        Gives (most a.now b.now) (3 * length a.now) IsLiteral circuit.old r circuit.new) }
+        GivesStep (most a.now b.now) (3 * length a.now) IsLiteral circuit.old r circuit.new) }
     ensures begins { Begins circuit.old circuit.new }
 {
     let not_a = opposites(alloc, a)?;

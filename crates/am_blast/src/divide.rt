@@ -4,9 +4,9 @@ ghost use Rattle.std.specs.Prelude.{◌≡◌, ◌+◌, ◌*◌, ◌<◌, IfOk, 
 ghost use Rattle.am_gate.specs.Circuit.{IsLiteral, HasRoom, Begins};
 ghost use Rattle.am_bv.specs.Operators.{weight_of};
 ghost use Rattle.am_bv.specs.declared.op.Op.TheVariants.{Udiv, Urem};
-ghost use Rattle.am_blast.specs.Words.{AreWords, IsWord};
+ghost use Rattle.am_blast.specs.Words.{AreWordPair, IsWord};
 ghost use Rattle.am_blast.specs.Division.{round, division, quotient, remainder};
-ghost use Rattle.am_gate.specs.Promises.{Gives};
+ghost use Rattle.am_gate.specs.Promises.{GivesStep};
 
 use crate::bitwise::{Gate, at_each_bit};
 use crate::shift::{Direction, moved};
@@ -26,11 +26,11 @@ fn round(
     divisor: &[Lit],
 ) -> Result<(Lit, WordLits), AllocError>
     requires some { 0 < length divisor.now }
-    requires words { AreWords circuit.old.vars divisor.now remainder.now }
+    requires words { AreWordPair circuit.old.vars divisor.now remainder.now }
     requires room { HasRoom (4 * length divisor.now) circuit.old }
     requires bit { IsLiteral circuit.old.vars bit }
     ensures ok { IfOk result (λ r.
-        Gives (round bit remainder.now divisor.now) (4 * length divisor.now)
+        GivesStep (round bit remainder.now divisor.now) (4 * length divisor.now)
         (λ vars o. IsLiteral vars o.0 × IsWord (length divisor.now) vars o.1) circuit.old r circuit.new) }
     ensures begins { Begins circuit.old circuit.new }
 {
@@ -62,10 +62,10 @@ fn division(
     a: &[Lit],
     b: &[Lit],
 ) -> Result<(WordLits, WordLits), AllocError>
-    requires words { AreWords circuit.old.vars a.now b.now }
+    requires words { AreWordPair circuit.old.vars a.now b.now }
     requires room { HasRoom (weight_of (length a.now) Udiv) circuit.old }
     ensures ok { IfOk result (λ r.
-        Gives (division a.now b.now) (weight_of (length a.now) Udiv)
+        GivesStep (division a.now b.now) (weight_of (length a.now) Udiv)
         (λ vars o. IsWord (length a.now) vars o.0 × IsWord (length a.now + 1) vars o.1)
         circuit.old r circuit.new) }
     ensures begins { Begins circuit.old circuit.new }
@@ -92,10 +92,10 @@ pub(crate) fn quotient(
     a: &[Lit],
     b: &[Lit],
 ) -> Result<WordLits, AllocError>
-    requires words { AreWords circuit.old.vars a.now b.now }
+    requires words { AreWordPair circuit.old.vars a.now b.now }
     requires room { HasRoom (weight_of (length a.now) Udiv) circuit.old }
     ensures ok { IfOk result (λ r.
-        Gives (quotient a.now b.now) (weight_of (length a.now) Udiv)
+        GivesStep (quotient a.now b.now) (weight_of (length a.now) Udiv)
         (IsWord (length a.now)) circuit.old r circuit.new) }
     ensures begins { Begins circuit.old circuit.new }
 {
@@ -110,10 +110,10 @@ pub(crate) fn remainder(
     a: &[Lit],
     b: &[Lit],
 ) -> Result<WordLits, AllocError>
-    requires words { AreWords circuit.old.vars a.now b.now }
+    requires words { AreWordPair circuit.old.vars a.now b.now }
     requires room { HasRoom (weight_of (length a.now) Urem) circuit.old }
     ensures ok { IfOk result (λ r.
-        Gives (remainder a.now b.now) (weight_of (length a.now) Urem)
+        GivesStep (remainder a.now b.now) (weight_of (length a.now) Urem)
         (IsWord (length a.now)) circuit.old r circuit.new) }
     ensures begins { Begins circuit.old circuit.new }
 {

@@ -2,9 +2,9 @@
 
 ghost use Rattle.std.specs.Prelude.{◌≡◌, ◌*◌, IfOk, All, length};
 ghost use Rattle.am_gate.specs.Circuit.{IsLiteral, HasRoom, Begins};
-ghost use Rattle.am_blast.specs.Words.{AreWords};
+ghost use Rattle.am_blast.specs.Words.{AreWordPair};
 ghost use Rattle.am_blast.specs.Comparisons.{equal, nonzero};
-ghost use Rattle.am_gate.specs.Promises.{Gives};
+ghost use Rattle.am_gate.specs.Promises.{GivesStep};
 
 use crate::bitwise::either;
 use am_gate::Circuit;
@@ -14,10 +14,10 @@ use std::alloc::AllocError;
 /// Whether the words read the same number.
 #[tactic(auto, using(am_gate::proofs::Laws::begins))]
 pub(crate) fn is_equal(circuit: &mut Circuit, a: &[Lit], b: &[Lit]) -> Result<Lit, AllocError>
-    requires words { AreWords circuit.old.vars a.now b.now }
+    requires words { AreWordPair circuit.old.vars a.now b.now }
     requires room { HasRoom (2 * length a.now) circuit.old }
     ensures ok { IfOk result (λ r.
-        Gives (equal a.now b.now) (2 * length a.now) IsLiteral circuit.old r circuit.new) }
+        GivesStep (equal a.now b.now) (2 * length a.now) IsLiteral circuit.old r circuit.new) }
     ensures begins { Begins circuit.old circuit.new }
 {
     let mut equal = circuit.truth();
@@ -36,7 +36,7 @@ pub(crate) fn is_equal(circuit: &mut Circuit, a: &[Lit], b: &[Lit]) -> Result<Li
 pub fn is_nonzero(circuit: &mut Circuit, a: &[Lit]) -> Result<Lit, AllocError>
     requires room { HasRoom (length a.now) circuit.old }
     requires word { All (IsLiteral circuit.old.vars) a.now }
-    ensures ok { IfOk result (λ r. Gives (nonzero a.now) (length a.now) IsLiteral circuit.old r circuit.new) }
+    ensures ok { IfOk result (λ r. GivesStep (nonzero a.now) (length a.now) IsLiteral circuit.old r circuit.new) }
     ensures begins { Begins circuit.old circuit.new }
 {
     let mut nonzero = circuit.truth().opposite();

@@ -41,6 +41,7 @@ mod relation;
 mod shift;
 mod sum;
 mod terms;
+pub mod theorems;
 mod word;
 
 pub use bitwise::{Gate, at_each_bit};

@@ -3,9 +3,9 @@
 ghost use Rattle.std.specs.Prelude.{◌≡◌, [], ◌≤◌, IfOk, All, length};
 ghost use Rattle.am_gate.specs.Circuit.{HasRoom, Begins};
 ghost use Rattle.am_bv.specs.Operators.{arity, weight_of};
-ghost use Rattle.am_blast.specs.Words.{AreWords, IsWord};
+ghost use Rattle.am_blast.specs.Words.{AreWordPair, IsWord};
 ghost use Rattle.am_blast.specs.Circuits.{circuit_at, circuit_of};
-ghost use Rattle.am_gate.specs.Promises.{Gives};
+ghost use Rattle.am_gate.specs.Promises.{GivesStep};
 
 use crate::bitwise::{Gate, at_each_bit};
 use crate::divide::{quotient, remainder};
@@ -32,7 +32,7 @@ pub fn apply(
     requires words { All (IsWord w circuit.old.vars) args.now }
     requires room { HasRoom (weight_of w op) circuit.old }
     ensures ok { IfOk result (λ r.
-        Gives (circuit_of w op args.now) (weight_of w op) (IsWord w) circuit.old r circuit.new) }
+        GivesStep (circuit_of w op args.now) (weight_of w op) (IsWord w) circuit.old r circuit.new) }
     ensures begins { Begins circuit.old circuit.new }
 {
     let a = args[0].as_slice();
@@ -55,10 +55,10 @@ fn binary(
     requires count { arity op ≡ 2 }
     requires least { 1 ≤ length a.now }
     requires most { length a.now ≤ 8 }
-    requires words { AreWords circuit.old.vars a.now b.now }
+    requires words { AreWordPair circuit.old.vars a.now b.now }
     requires room { HasRoom (weight_of (length a.now) op) circuit.old }
     ensures ok { IfOk result (λ r.
-        Gives (circuit_at (length a.now) op a.now b.now []) (weight_of (length a.now) op)
+        GivesStep (circuit_at (length a.now) op a.now b.now []) (weight_of (length a.now) op)
         (IsWord (length a.now)) circuit.old r circuit.new) }
     ensures begins { Begins circuit.old circuit.new }
 {

@@ -4,9 +4,9 @@ ghost use Rattle.std.specs.Prelude.{◌≡◌, IfOk, All, length};
 ghost use Rattle.am_gate.specs.Circuit.{IsLiteral, HasRoom, Begins};
 ghost use Rattle.am_bv.specs.Operators.{weight_of};
 ghost use Rattle.am_bv.specs.declared.op.Op.TheVariants.{Mul};
-ghost use Rattle.am_blast.specs.Words.{AreWords, IsWord};
+ghost use Rattle.am_blast.specs.Words.{AreWordPair, IsWord};
 ghost use Rattle.am_blast.specs.Products.{each_and, product};
-ghost use Rattle.am_gate.specs.Promises.{Gives};
+ghost use Rattle.am_gate.specs.Promises.{GivesStep};
 
 use crate::sum::{sum, zeros};
 use crate::word::{WordLits, padded_below};
@@ -26,7 +26,7 @@ fn each_and(
     requires literal { IsLiteral circuit.old.vars b }
     requires word { All (IsLiteral circuit.old.vars) word.now }
     ensures ok { IfOk result (λ r.
-        Gives (each_and b word.now) (length word.now) (IsWord (length word.now)) circuit.old r circuit.new) }
+        GivesStep (each_and b word.now) (length word.now) (IsWord (length word.now)) circuit.old r circuit.new) }
     ensures begins { Begins circuit.old circuit.new }
 {
     let mut row = WordLits::new(alloc);
@@ -45,10 +45,10 @@ pub(crate) fn product(
     a: &[Lit],
     b: &[Lit],
 ) -> Result<WordLits, AllocError>
-    requires words { AreWords circuit.old.vars a.now b.now }
+    requires words { AreWordPair circuit.old.vars a.now b.now }
     requires room { HasRoom (weight_of (length a.now) Mul) circuit.old }
     ensures ok { IfOk result (λ r.
-        Gives (product a.now b.now) (weight_of (length a.now) Mul)
+        GivesStep (product a.now b.now) (weight_of (length a.now) Mul)
         (IsWord (length a.now)) circuit.old r circuit.new) }
     ensures begins { Begins circuit.old circuit.new }
 {

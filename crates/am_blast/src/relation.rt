@@ -2,10 +2,10 @@
 
 ghost use Rattle.std.specs.Prelude.{◌≡◌, ◌+◌, ◌≤◌, IfOk, All, length};
 ghost use Rattle.am_gate.specs.Circuit.{IsLiteral, HasRoom, Begins};
-ghost use Rattle.am_blast.specs.Words.{AreWords, IsWord, flag};
+ghost use Rattle.am_blast.specs.Words.{AreWordPair, IsWord, flag};
 ghost use Rattle.am_blast.specs.Bitwise.{choice};
 ghost use Rattle.am_blast.specs.Comparisons.{nonzero, flagged, test_of, test_weight};
-ghost use Rattle.am_gate.specs.Promises.{Gives};
+ghost use Rattle.am_gate.specs.Promises.{GivesStep};
 
 use crate::bitwise::{Gate, at_each_bit};
 use crate::compare::{is_at_most, is_below, sign_turned};
@@ -40,10 +40,10 @@ pub(crate) fn flagged(
     b: &[Lit],
 ) -> Result<WordLits, AllocError>
     requires bits { 1 ≤ length a.now }
-    requires words { AreWords circuit.old.vars a.now b.now }
+    requires words { AreWordPair circuit.old.vars a.now b.now }
     requires room { HasRoom (test_weight relation (length a.now)) circuit.old }
     ensures ok { IfOk result (λ r.
-        Gives (flagged (length a.now) (test_of relation a.now b.now)) (test_weight relation (length a.now))
+        GivesStep (flagged (length a.now) (test_of relation a.now b.now)) (test_weight relation (length a.now))
         (IsWord (length a.now)) circuit.old r circuit.new) }
     ensures begins { Begins circuit.old circuit.new }
 {
@@ -62,11 +62,12 @@ pub(crate) fn chosen(
     x: &[Lit],
     y: &[Lit],
 ) -> Result<WordLits, AllocError>
-    requires words { AreWords circuit.old.vars a.now b.now }
-    requires choices { AreWords circuit.old.vars x.now y.now }
+    requires words { AreWordPair circuit.old.vars a.now b.now }
+    requires choices { AreWordPair circuit.old.vars x.now y.now }
     requires room { HasRoom (test_weight relation (length a.now) + length x.now) circuit.old }
     ensures ok { IfOk result (λ r.
-        Gives (choice (test_of relation a.now b.now) x.now y.now) (test_weight relation (length a.now) + length x.now)
+        GivesStep (choice (test_of relation a.now b.now) x.now y.now)
+        (test_weight relation (length a.now) + length x.now)
         (IsWord (length x.now)) circuit.old r circuit.new) }
     ensures begins { Begins circuit.old circuit.new }
 {
@@ -83,11 +84,11 @@ pub(crate) fn if_nonzero(
     a: &[Lit],
     b: &[Lit],
 ) -> Result<WordLits, AllocError>
-    requires words { AreWords circuit.old.vars a.now b.now }
+    requires words { AreWordPair circuit.old.vars a.now b.now }
     requires room { HasRoom (length c.now + length a.now) circuit.old }
     requires test { All (IsLiteral circuit.old.vars) c.now }
     ensures ok { IfOk result (λ r.
-        Gives (choice (nonzero c.now) a.now b.now) (length c.now + length a.now)
+        GivesStep (choice (nonzero c.now) a.now b.now) (length c.now + length a.now)
         (IsWord (length a.now)) circuit.old r circuit.new) }
     ensures begins { Begins circuit.old circuit.new }
 {
@@ -104,10 +105,10 @@ fn test(
     a: &[Lit],
     b: &[Lit],
 ) -> Result<Lit, AllocError>
-    requires words { AreWords circuit.old.vars a.now b.now }
+    requires words { AreWordPair circuit.old.vars a.now b.now }
     requires room { HasRoom (test_weight relation (length a.now)) circuit.old }
     ensures ok { IfOk result (λ r.
-        Gives (test_of relation a.now b.now) (test_weight relation (length a.now))
+        GivesStep (test_of relation a.now b.now) (test_weight relation (length a.now))
         IsLiteral circuit.old r circuit.new) }
     ensures begins { Begins circuit.old circuit.new }
 {

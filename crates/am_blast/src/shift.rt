@@ -2,9 +2,9 @@
 
 ghost use Rattle.std.specs.Prelude.{◌≡◌, ◌+◌, ◌*◌, ◌^◌, ◌<◌, ◌≤◌, IfOk, All, length, slice_index_or};
 ghost use Rattle.am_gate.specs.Circuit.{IsLiteral, HasRoom, Begins};
-ghost use Rattle.am_blast.specs.Words.{AreWords, IsWord};
+ghost use Rattle.am_blast.specs.Words.{AreWordPair, IsWord};
 ghost use Rattle.am_blast.specs.Shifts.{moved, shifted};
-ghost use Rattle.am_gate.specs.Promises.{Gives};
+ghost use Rattle.am_gate.specs.Promises.{GivesStep};
 
 use crate::bitwise::{Gate, at_each_bit};
 use crate::word::{WordLits, copied};
@@ -31,12 +31,12 @@ pub(crate) fn shifted(
     a: &[Lit],
     by: &[Lit],
 ) -> Result<WordLits, AllocError>
-    requires words { AreWords circuit.old.vars a.now by.now }
+    requires words { AreWordPair circuit.old.vars a.now by.now }
     requires few { length a.now ≤ 8 }
     requires room { HasRoom (length a.now * length a.now) circuit.old }
     requires fill { IsLiteral circuit.old.vars fill }
     ensures ok { IfOk result (λ r.
-        Gives (shifted (moved direction fill) a.now by.now) (length a.now * length a.now)
+        GivesStep (shifted (moved direction fill) a.now by.now) (length a.now * length a.now)
         (IsWord (length a.now)) circuit.old r circuit.new) }
     ensures begins { Begins circuit.old circuit.new }
 {

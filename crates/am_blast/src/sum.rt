@@ -2,9 +2,9 @@
 
 ghost use Rattle.std.specs.Prelude.{◌≡◌, ◌*◌, IfOk, All, length};
 ghost use Rattle.am_gate.specs.Circuit.{truth, IsLiteral, HasRoom, Begins};
-ghost use Rattle.am_blast.specs.Words.{AreWords, IsWord, opposites, zeros};
+ghost use Rattle.am_blast.specs.Words.{AreWordPair, IsWord, opposites, zeros};
 ghost use Rattle.am_blast.specs.Sums.{full_adder, adder, sum_of};
-ghost use Rattle.am_gate.specs.Promises.{Gives};
+ghost use Rattle.am_gate.specs.Promises.{GivesStep};
 
 use crate::word::{WordLits, opposites};
 use am_gate::Circuit;
@@ -25,7 +25,7 @@ pub(crate) fn add_bits(
     requires second { IsLiteral circuit.old.vars b }
     requires third { IsLiteral circuit.old.vars c }
     ensures ok { IfOk result (λ r.
-        Gives (full_adder a b c) 3 (λ vars s. IsLiteral vars s.0 × IsLiteral vars s.1) circuit.old r circuit.new) }
+        GivesStep (full_adder a b c) 3 (λ vars s. IsLiteral vars s.0 × IsLiteral vars s.1) circuit.old r circuit.new) }
     ensures begins { Begins circuit.old circuit.new }
 {
     let half = circuit.xor(a, b)?;
@@ -42,11 +42,11 @@ pub(crate) fn add_words(
     b: &[Lit],
     c: Lit,
 ) -> Result<(WordLits, Lit), AllocError>
-    requires words { AreWords circuit.old.vars a.now b.now }
+    requires words { AreWordPair circuit.old.vars a.now b.now }
     requires room { HasRoom (3 * length a.now) circuit.old }
     requires third { IsLiteral circuit.old.vars c }
     ensures ok { IfOk result (λ r.
-        Gives (adder a.now b.now c) (3 * length a.now)
+        GivesStep (adder a.now b.now c) (3 * length a.now)
         (λ vars s. IsWord (length a.now) vars s.0 × IsLiteral vars s.1) circuit.old r circuit.new) }
     ensures begins { Begins circuit.old circuit.new }
 {
@@ -68,11 +68,11 @@ pub(crate) fn sum(
     b: &[Lit],
     c: Lit,
 ) -> Result<WordLits, AllocError>
-    requires words { AreWords circuit.old.vars a.now b.now }
+    requires words { AreWordPair circuit.old.vars a.now b.now }
     requires room { HasRoom (3 * length a.now) circuit.old }
     requires third { IsLiteral circuit.old.vars c }
     ensures ok { IfOk result (λ r.
-        Gives (sum_of a.now b.now c) (3 * length a.now) (IsWord (length a.now)) circuit.old r circuit.new) }
+        GivesStep (sum_of a.now b.now c) (3 * length a.now) (IsWord (length a.now)) circuit.old r circuit.new) }
     ensures begins { Begins circuit.old circuit.new }
 {
     let (word, _) = add_words(alloc, circuit, a, b, c)?;
@@ -86,10 +86,10 @@ pub(crate) fn difference(
     a: &[Lit],
     b: &[Lit],
 ) -> Result<WordLits, AllocError>
-    requires words { AreWords circuit.old.vars a.now b.now }
+    requires words { AreWordPair circuit.old.vars a.now b.now }
     requires room { HasRoom (3 * length a.now) circuit.old }
     ensures ok { IfOk result (λ r.
-        Gives (sum_of a.now (opposites b.now) truth) (3 * length a.now)
+        GivesStep (sum_of a.now (opposites b.now) truth) (3 * length a.now)
         (IsWord (length a.now)) circuit.old r circuit.new) }
     ensures begins { Begins circuit.old circuit.new }
 {
@@ -107,7 +107,7 @@ pub(crate) fn negation(
     requires room { HasRoom (3 * length a.now) circuit.old }
     requires word { All (IsLiteral circuit.old.vars) a.now }
     ensures ok { IfOk result (λ r.
-        Gives (sum_of (opposites a.now) (zeros (length a.now)) truth) (3 * length a.now)
+        GivesStep (sum_of (opposites a.now) (zeros (length a.now)) truth) (3 * length a.now)
         (IsWord (length a.now)) circuit.old r circuit.new) }
     ensures begins { Begins circuit.old circuit.new }
 {

@@ -2,13 +2,12 @@
 
 ghost use Rattle.std.specs.Prelude.{ℕ, Bool, ◌≡◌, false, ◌+◌, ◌%◌, ◌^◌, ◌<◌, ◌==◌, if◌then◌else◌, IfOk, OnOk, All};
 ghost use Rattle.std.specs.Prelude.{IsTrue, length, map};
-ghost use Rattle.am_gate.specs.Circuit.{truth, falsity, AreScoped, HasRoom, Grows, Begins};
-ghost use Rattle.am_gate.specs.Value.{Meets};
-ghost use Rattle.am_gate.specs.Build.{place_of, Follows, AreGates};
+ghost use Rattle.am_gate.specs.Circuit.{truth, falsity, HasRoom, Begins};
+ghost use Rattle.am_gate.specs.Build.{Means};
 ghost use Rattle.am_bv.specs.Terms.{val, fits, nodes, weight};
-ghost use Rattle.am_blast.specs.Words.{IsWord, reads, constant};
+ghost use Rattle.am_blast.specs.Words.{IsWord, reads, ReadsAs, constant};
 ghost use Rattle.am_blast.specs.Circuits.{blasted};
-ghost use Rattle.am_gate.specs.Promises.{Gives};
+ghost use Rattle.am_gate.specs.Promises.{GivesStep};
 
 use crate::operator::apply;
 use crate::word::{WordLits, Words, copied};
@@ -19,11 +18,11 @@ use std::alloc::{AllocError, Global};
 
 /// Makes the circuit of a term over the words of its fields, and answers the term's word.
 ///
-/// It makes exactly as many gates as the term weighs, or fewer where the circuit folds, each over earlier
-/// variables, and no input. Wherever variable 0 is true and each gate's variable has its gate's value, the
-/// word reads as the value of the term where each field has the value that its word reads. Each choice of
-/// the earlier variables extends to such truth values. After want of memory the circuit begins with its
-/// earlier variables and clauses.
+/// It makes exactly as many gates as the term weighs, or fewer where the circuit folds, and no input. Wherever
+/// variable 0 is true and each gate's variable has its gate's value, the word reads as the value of the term
+/// where each field has the value that its word reads. After want of memory the circuit begins with its earlier
+/// variables and clauses. [`crate::theorems`] says that the gates stand over earlier variables, and that each
+/// choice of these extends to such truth values.
 pub fn blast(
     alloc: Global,
     circuit: &mut Circuit,
@@ -35,19 +34,12 @@ pub fn blast(
     requires nodes { nodes term.now < 2 ^ 32 }
     requires fields { All (IsWord w circuit.old.vars) fields.now }
     requires room { HasRoom (weight w term.now) circuit.old }
-    ensures circuit { IfOk result (λ r. Follows (blasted w fields.now term.now) circuit.old r circuit.new) }
-    ensures word { IfOk result (IsWord w circuit.new.vars) }
-    ensures grows { OnOk result (Grows (weight w term.now) circuit.old circuit.new) }
-    ensures scoped { AreScoped circuit.old.vars (blasted w fields.now term.now (place_of circuit.old)).events }
-    ensures gates { AreGates (blasted w fields.now term.now (place_of circuit.old)).events }
+    ensures ok { IfOk result (λ r.
+        GivesStep (blasted w fields.now term.now) (weight w term.now) (IsWord w) circuit.old r circuit.new) }
     ensures count { circuit.old.folding ≡ false →
         OnOk result (circuit.new.vars ≡ circuit.old.vars + weight w term.now) }
-    ensures meaning { IfOk result (λ r. (v : ℕ → Bool) → IsTrue (v 0) →
-        Meets v circuit.old.vars (blasted w fields.now term.now (place_of circuit.old)).events →
-        reads v r ≡ val w term.now (map (reads v) fields.now)) }
-    ensures extends { (v : ℕ → Bool) →
-        (u : ℕ → Bool) × ((x : ℕ) → x < circuit.old.vars → u x ≡ v x) ×
-        Meets u circuit.old.vars (blasted w fields.now term.now (place_of circuit.old)).events }
+    ensures meaning { (v : ℕ → Bool) →
+        Means v (blasted w fields.now term.now) (ReadsAs v w (val w term.now (map (reads v) fields.now))) }
     ensures begins { Begins circuit.old circuit.new }
 {
     prove!(circuit.truth().variable() == 0);
@@ -70,7 +62,7 @@ fn word_of(
     requires room { HasRoom (weight w term.now) circuit.old }
     requires truth { 0 < circuit.old.vars }
     ensures ok { IfOk result (λ r.
-        Gives (blasted w fields.now term.now) (weight w term.now) (IsWord w) circuit.old r circuit.new) }
+        GivesStep (blasted w fields.now term.now) (weight w term.now) (IsWord w) circuit.old r circuit.new) }
     ensures begins { Begins circuit.old circuit.new }
 {
     match term {

@@ -12,13 +12,14 @@ use Rattle.am_syntax.specs.Readers.{Words}
 use Rattle.am_syntax.proofs.Laws.{choice_law, closed_law, key_law, keyed_law, seen_law, then_law, times_law}
 use Rattle.am_bv.specs.declared.term.Term.{Term}
 use Rattle.am_cert.specs.Grammar.{AskedParts, ConflictParts, ExampleParts, HintedBest, HintedNone, NoneParts}
-use Rattle.am_cert.specs.Grammar.{OutcomeParts, Shape, answer, asked, asked_of, chained_of, chained_part, hinted_best}
+use Rattle.am_cert.specs.Grammar.{OutcomeParts, ProblemShape, answer, asked, asked_of, chained_of, chained_part}
+use Rattle.am_cert.specs.Grammar.{hinted_best}
 use Rattle.am_cert.specs.Grammar.{hinted_none, hinted_of, hinted_part, hints, asked_parts, best, example, log}
-use Rattle.am_cert.specs.Grammar.{negative_count, none, outcome, outcome_of, outcome_parts, spent_conflicts}
+use Rattle.am_cert.specs.Grammar.{negative_count, none, outcome, outcome_of_parts, outcome_parts, spent_conflicts}
 use Rattle.am_cert.specs.Grammar.{spent_turns, terms}
 use Rattle.am_cert.specs.declared.answer.Proofs.{Proofs}
 use Rattle.am_cert.specs.declared.answer.Proofs.TheVariants.{Chains, Hinted}
-use Rattle.am_cert.specs.inside.Shapes.{IsShape}
+use Rattle.am_cert.specs.inside.Shapes.{IsProblemShape}
 use Rattle.am_cert.specs.inside.Shown.{term_lines}
 use Rattle.am_cert.proofs.RowLaws.{EndsNumbers, narrow_law, result_term_law, terms_law}
 use Rattle.am_cert.proofs.TurnLaws.{EndsTurns, example_law, turns_law}
@@ -38,13 +39,13 @@ asked_back (Keep t e places) = refl
 asked_back (Sound t) = refl
 asked_back (Precise t) = refl
 
-outcome_there : (x : OutcomeParts) → outcome_parts (outcome_of x) ≡ x
+outcome_there : (x : OutcomeParts) → outcome_parts (outcome_of_parts x) ≡ x
 outcome_there (inl x) = refl
 outcome_there (inr (inl x)) = refl
 outcome_there (inr (inr (inl trace))) = refl
 outcome_there (inr (inr (inr x))) = refl
 
-outcome_back : (o : Outcome) → outcome_of (outcome_parts o) ≡ o
+outcome_back : (o : Outcome) → outcome_of_parts (outcome_parts o) ≡ o
 outcome_back (Best t trace sound_log best_log) = refl
 outcome_back (Absent trace log) = refl
 outcome_back (Turns trace) = refl
@@ -83,19 +84,19 @@ pub record EndsAnswer (rest : Words) : Type 0 where
 
 -- ---- the query
 
-abbrev test_or : Shape → Piece (List Term ⊎ List Term)
+abbrev test_or : ProblemShape → Piece (List Term ⊎ List Term)
 test_or s = choice (next_is (codes "sound")) (keyed (codes "sound") (terms s)) (keyed (codes "precise") (terms s))
 
-abbrev keep_or : Shape → List Turn → Piece (ExampleParts ⊎ (List Term ⊎ List Term))
+abbrev keep_or : ProblemShape → List Turn → Piece (ExampleParts ⊎ (List Term ⊎ List Term))
 keep_or s trace =
     choice (next_is (codes "keep")) (keyed (codes "keep") (example s (negative_count trace))) (test_or s)
 
-tests_differ : (s : Shape) (x : List Term ⊎ List Term) (rest : Words) →
+tests_differ : (s : ProblemShape) (x : List Term ⊎ List Term) (rest : Words) →
     next_is (codes "keep") ((test_or s).spell x ++ rest) ≡ false
 tests_differ s (inl t) rest = refl
 tests_differ s (inr t) rest = refl
 
-keeps_differ : (s : Shape) (trace : List Turn) (x : ExampleParts ⊎ (List Term ⊎ List Term)) (rest : Words) →
+keeps_differ : (s : ProblemShape) (trace : List Turn) (x : ExampleParts ⊎ (List Term ⊎ List Term)) (rest : Words) →
     next_is (codes "start") ((keep_or s trace).spell x ++ rest) ≡ false
 keeps_differ s trace (inl x) rest = refl
 keeps_differ s trace (inr (inl t)) rest = refl
@@ -103,31 +104,31 @@ keeps_differ s trace (inr (inr t)) rest = refl
 
 -- ---- the answer
 
-conflicts_differ : (s : Shape) (x : ConflictParts) (rest : Words) →
+conflicts_differ : (s : ProblemShape) (x : ConflictParts) (rest : Words) →
     next_is (codes "turns") ((spent_conflicts s).spell x ++ rest) ≡ false
 unfolding spent_conflicts
 conflicts_differ s x rest = refl
 
-abbrev conflicts_or : Shape → Piece (List Turn ⊎ ConflictParts)
+abbrev conflicts_or : ProblemShape → Piece (List Turn ⊎ ConflictParts)
 conflicts_or s = choice (next_is (codes "turns")) (spent_turns s) (spent_conflicts s)
 
-abbrev none_or : Shape → Piece (NoneParts ⊎ (List Turn ⊎ ConflictParts))
+abbrev none_or : ProblemShape → Piece (NoneParts ⊎ (List Turn ⊎ ConflictParts))
 none_or s = choice (next_is (codes "none")) (none s) (conflicts_or s)
 
-spent_differ : (s : Shape) (x : List Turn ⊎ ConflictParts) (rest : Words) →
+spent_differ : (s : ProblemShape) (x : List Turn ⊎ ConflictParts) (rest : Words) →
     next_is (codes "none") ((conflicts_or s).spell x ++ rest) ≡ false
 unfolding spent_turns spent_conflicts
 spent_differ s (inl x) rest = refl
 spent_differ s (inr x) rest = refl
 
-others_differ : (s : Shape) (x : NoneParts ⊎ (List Turn ⊎ ConflictParts)) (rest : Words) →
+others_differ : (s : ProblemShape) (x : NoneParts ⊎ (List Turn ⊎ ConflictParts)) (rest : Words) →
     next_is (codes "best") ((none_or s).spell x ++ rest) ≡ false
 unfolding none spent_turns spent_conflicts
 others_differ s (inl x) rest = refl
 others_differ s (inr (inl x)) rest = refl
 others_differ s (inr (inr x)) rest = refl
 
-module _ (s : Shape) (is : IsShape s) where
+module _ (s : ProblemShape) (is : IsProblemShape s) where
   pub asked_law : (trace : List Turn) → IsExact (asked s trace) EndsNumbers
   unfolding asked key_or
   asked_law trace =
@@ -137,9 +138,9 @@ module _ (s : Shape) (is : IsShape s) where
       (choice_law (next_is (codes "sound"))
       (narrow_law (keyed_law syntax (codes "sound") (terms_law s is)) (λ _ _. tt))
       (narrow_law (keyed_law syntax (codes "precise") (terms_law s is)) (λ _ _. tt))
-      (λ _ _ _. refl) (λ _ _ _. refl))
-      (λ _ _ _. refl) (λ x rest good. tests_differ s x rest))
-      (λ _ _ _. refl) (λ x rest good. keeps_differ s trace x rest))
+      (λ _ _ _. refl) (λ _ _ _. refl) (λ _ _ _. refl))
+      (λ _ _ _. refl) (λ x rest good. tests_differ s x rest) (λ _ _ _. refl))
+      (λ _ _ _. refl) (λ x rest good. keeps_differ s trace x rest) (λ _ _ _. refl))
       (λ x good. asked_there x) asked_back)
 
   pub term_lines_law : IsExact (term_lines s) always
@@ -175,14 +176,14 @@ module _ (s : Shape) (is : IsShape s) where
   pub outcome_law : IsExact (outcome s) EndsAnswer
   unfolding outcome best none spent_turns
   outcome_law =
-      seen_law outcome_of outcome_parts
+      seen_law outcome_of_parts outcome_parts
       (choice_law (next_is (codes "best")) (narrow_law best_law (λ rest ends. ends.log))
       (choice_law (next_is (codes "none")) (narrow_law none_law (λ rest ends. ends.log))
       (choice_law (next_is (codes "turns")) (narrow_law spent_turns_law (λ rest ends. ends.turns))
       (narrow_law spent_conflicts_law (λ rest ends. ends.log))
-      (λ _ _ _. refl) (λ x rest _. conflicts_differ s x rest))
-      (λ _ _ _. refl) (λ x rest _. spent_differ s x rest))
-      (λ _ _ _. refl) (λ x rest _. others_differ s x rest))
+      (λ _ _ _. refl) (λ x rest _. conflicts_differ s x rest) (λ _ _ _. refl))
+      (λ _ _ _. refl) (λ x rest _. spent_differ s x rest) (λ _ _ _. refl))
+      (λ _ _ _. refl) (λ x rest _. others_differ s x rest) (λ _ _ _. refl))
       (λ x good. outcome_there x) outcome_back
 
   -- ---- the answer with hints
@@ -208,7 +209,7 @@ module _ (s : Shape) (is : IsShape s) where
       seen_where_law hinted_of (λ a. hinted_part a.outcome a.proofs)
       (choice_law (next_is (codes "best"))
       (narrow_law hinted_best_law (λ rest ends. ends.hints)) (narrow_law hinted_none_law (λ rest ends. ends.hints))
-      (λ _ _ _. refl) (λ _ _ _. refl))
+      (λ _ _ _. refl) (λ _ _ _. refl) (λ _ _ _. refl))
       hinted_there (λ a x e. hinted_back a.outcome a.proofs x e)
   answer_law false =
       seen_where_law chained_of (λ a. chained_part a.outcome a.proofs) outcome_law (λ x. refl)

@@ -20,8 +20,8 @@ use Rattle.am_syntax.specs.Exact.{Takes, words_in}
 use Rattle.am_syntax.specs.Numerals.{is_digit}
 use Rattle.am_syntax.specs.Pieces.{good_from, keyed, number, spelled_from}
 use Rattle.am_syntax.specs.Readers.{Reached, Word, Words}
-use Rattle.am_cert.specs.Certificate.{AreBounded, AreHints, AreNumbers, IsBounded, IsHint}
-use Rattle.am_cert.specs.Grammar.{Shape, asked, best, chain, code, hint, hints, log, none, numbers, outcome}
+use Rattle.am_cert.specs.Certificate.{AreBounded, AreCertificateNumbers, AreHints, IsBounded, IsHint}
+use Rattle.am_cert.specs.Grammar.{ProblemShape, asked, best, chain, code, hint, hints, log, none, numbers, outcome}
 use Rattle.am_cert.specs.Grammar.{result_term, spent_conflicts, spent_turns, step, turns}
 use Rattle.am_cert.specs.Texts.{IsShort, word_bytes}
 use Rattle.am_cert.proofs.Items.{all_from_good}
@@ -256,10 +256,10 @@ chains_steps most seen (c ∷ chains) h =
     (chains_steps most (seen ++ c ∷ []) chains (omega (arith, h, both)))
 
 -- the items of a log after its name
-abbrev behind_name : Word → Words → Words
-behind_name name items = codes "log" ∷ name ∷ items
+abbrev after_name : Word → Words → Words
+after_name name items = codes "log" ∷ name ∷ items
 
-name_bytes : (name : Word) (items : Words) → bytes items ≤ bytes (behind_name name items)
+name_bytes : (name : Word) (items : Words) → bytes items ≤ bytes (after_name name items)
 name_bytes name items =
     omega (arith, before_bytes (codes "log") (name ∷ items), before_bytes name items)
 
@@ -320,7 +320,7 @@ small_code : (n : ℕ) → code.Good n → n < 2 ^ 32
 unfolding number
 small_code n good = omega (arith, good.1)
 
-numbers_bounded : (ns : List ℕ) → numbers.Good ns → length ns < 2 ^ 31 → AreNumbers ns
+numbers_bounded : (ns : List ℕ) → numbers.Good ns → length ns < 2 ^ 31 → AreCertificateNumbers ns
 numbers_bounded ns good few =
     record { few = few; small = all_from_good (λ _. code) (λ n. n < 2 ^ 32) (λ _ n h. small_code n h) [] ns good }
 
@@ -352,7 +352,7 @@ hints_bounded name hs good short =
 -- ---- the answer
 
 -- logs of few bytes aren't too long
-pub outcome_bounded : (s : Shape) (o : Outcome) → bytes ((outcome s).spell o) ≤ 2 ^ 32 → AreBounded o
+pub outcome_bounded : (s : ProblemShape) (o : Outcome) → bytes ((outcome s).spell o) ≤ 2 ^ 32 → AreBounded o
 unfolding outcome best none spent_turns spent_conflicts
 outcome_bounded s (Best t trace sound_log best_log) h =
     let lines = spelled_from (λ _. keyed (codes "term") (result_term s)) [] t in

@@ -16,7 +16,7 @@ use Rattle.am_syntax.specs.Exact.{IsExact, Takes, always, words_in}
 use Rattle.am_syntax.specs.Numerals.{is_digits}
 use Rattle.am_syntax.specs.Pieces.{closed, keyed, syntax}
 use Rattle.am_syntax.specs.Readers.{◌>>=◌, Read, Word, Words, done, onward}
-use Rattle.am_syntax.specs.Texts.{Answers, ended, whole}
+use Rattle.am_syntax.specs.Texts.{Answers, ended, opened, read_whole, whole}
 use Rattle.am_syntax.specs.declared.refusal.Cause.{Cause}
 use Rattle.am_syntax.specs.declared.refusal.Cause.TheVariants.{Number, Syntax}
 use Rattle.am_syntax.specs.declared.refusal.ReadError.{ReadError}
@@ -25,15 +25,16 @@ use Rattle.am_syntax.specs.declared.refusal.Refusal.{Refusal}
 use Rattle.am_syntax.proofs.Laws.{Takes-halves, Takes-then, Takes-words, bind_ok, chosen, keyed_law, ok_is}
 use Rattle.am_syntax.proofs.Laws.{same_bytes, token_law}
 use Rattle.am_cert.specs.Certificate.{Certificate, IsCertificate, answer_of}
-use Rattle.am_cert.specs.Grammar.{Shape, answer, outcome, shape_of, version, version_judge, version_word}
-use Rattle.am_cert.specs.Texts.{Draft, IsSettledCertificate, Reads, all_settled, answered, certificate_of}
-use Rattle.am_cert.specs.Texts.{certificate_words, IsShort, draft, drafted, settled, settled_with}
+use Rattle.am_cert.specs.Grammar.{ProblemShape, answer, outcome, shape_of, version, version_judge, version_word}
+use Rattle.am_cert.specs.Texts.{Draft, IsSettledCertificate, ReadsAsCertificate, answered, certificate_of}
+use Rattle.am_cert.specs.Texts.{settled_certificate_of}
+use Rattle.am_cert.specs.Texts.{certificate_words, IsShort, draft, settled, settled_with}
 use Rattle.am_cert.specs.Versions.{has_hints}
 use Rattle.am_cert.specs.declared.answer.Answer.{Answer}
 use Rattle.am_cert.specs.declared.version.Version.{Version}
 use Rattle.am_cert.specs.declared.version.Version.TheVariants.{Four, One, Three, Two}
 use Rattle.am_cert.specs.inside.Drafts.{CanFollow}
-use Rattle.am_cert.specs.inside.Shapes.{IsShape}
+use Rattle.am_cert.specs.inside.Shapes.{IsProblemShape}
 use Rattle.am_cert.proofs.AnswerLaws.{answered_law}
 use Rattle.am_cert.proofs.Bounds.{before_bytes, both_bytes, bytes, left_short, taken_short, text_short}
 use Rattle.am_cert.proofs.Following.{answer_stands, good_answer}
@@ -78,7 +79,8 @@ heading_law = keyed_law syntax (codes "certificate") version_law
 
 -- ---- what a problem says of the rows after it
 
-lines_shape : (l : Lines) → IsLines l → IsShape (shape_of l)
+-- what good lines say of the rows after them is right
+pub lines_shape : (l : Lines) → IsLines l → IsProblemShape (shape_of l)
 lines_shape l is = record {
   width = is.width.1;
   inputs = is.inputs.1;
@@ -86,15 +88,15 @@ lines_shape l is = record {
   turns = is.turns;
 }
 
-problem_shape : (p : Problem) → IsProblem p → IsShape (shape_of (named p))
+problem_shape : (p : Problem) → IsProblem p → IsProblemShape (shape_of (named p))
 problem_shape p is = lines_shape (named p) (lines_of_formed p is.formed)
 
 -- a problem that was read has few fields
-pub draft_shape : (s t : Left) (d : ProblemDraft) → problem_draft s ≡ Ok (d, t) → IsShape (shape_of d.lines)
+pub draft_shape : (s t : Left) (d : ProblemDraft) → problem_draft s ≡ Ok (d, t) → IsProblemShape (shape_of d.lines)
 draft_shape s t d read =
     let f = bind_ok (problem.read s) (λ l. done (draft_with s.tokens l)) (d, t) read in
     let same = ok_is (draft_with s.tokens f.0.0, f.0.1) (d, t) f.2 in
-    subst (λ (q : ProblemDraft × Left). IsShape (shape_of q.0.lines)) same
+    subst (λ (q : ProblemDraft × Left). IsProblemShape (shape_of q.0.lines)) same
     (lines_shape f.0.0 (lines_good f.0.0 (problem_law.takes s f.0.0 f.0.1 f.1).1))
 
 -- ---- the answer
@@ -135,11 +137,11 @@ settled_parts v a (Err r) c e = absurd (let f : ◌≡◌ {A = Result Certificat
 
 -- what was read to a draft
 record IsRead (s t : Left) (d : Draft) : Type 0 where
-  behind_version : Left
-  behind_problem : Left
-  heading : (keyed (codes "certificate") version).read s ≡ Ok (d.version, behind_version)
-  problem : problem_draft behind_version ≡ Ok (d.problem, behind_problem)
-  answer : answered d.version d.problem behind_problem ≡ Ok (d.answer, t)
+  after_version : Left
+  after_problem : Left
+  heading : (keyed (codes "certificate") version).read s ≡ Ok (d.version, after_version)
+  problem : problem_draft after_version ≡ Ok (d.problem, after_problem)
+  answer : answered d.version d.problem after_problem ≡ Ok (d.answer, t)
 
 read_parts : (s t : Left) (d : Draft) → draft s ≡ Ok (d, t) → IsRead s t d
 unfolding draft
@@ -150,8 +152,8 @@ read_parts s t d e =
     let made : Draft × Left = (record { version = f.0.0; problem = g.0.0; answer = h.0.0 }, h.0.1) in
     subst (λ (q : Draft × Left). IsRead s q.1 q.0) (ok_is made (d, t) h.2)
     (record {
-      behind_version = f.0.1;
-      behind_problem = g.0.1;
+      after_version = f.0.1;
+      after_problem = g.0.1;
       heading = f.1;
       problem = g.1;
       answer = h.1;
@@ -166,24 +168,24 @@ certificate_takes s t d c read settles short =
     let r = read_parts s t d read in
     let to = settled_parts d.version d.answer (settled_problem d.problem) c settles in
     let p = to.problem in
-    let heading = heading_law.takes s d.version r.behind_version r.heading in
-    let is = draft_takes r.behind_version r.behind_problem d.problem p r.problem to.settles in
+    let heading = heading_law.takes s d.version r.after_version r.heading in
+    let is = draft_takes r.after_version r.after_problem d.problem p r.problem to.settles in
     let shape = ap shape_of is.lines in
-    let left = left_short r.behind_version (problem.spell (named p)) r.behind_problem is.taken
-    (left_short s (codes "certificate" ∷ version_word d.version ∷ []) r.behind_version heading.0 short) in
+    let left = left_short r.after_version (problem.spell (named p)) r.after_problem is.taken
+    (left_short s (codes "certificate" ∷ version_word d.version ∷ []) r.after_version heading.0 short) in
     let follows =
-    answer_follows r.behind_version r.behind_problem t d.version d.problem d.answer r.problem r.answer left in
-    let spelled : Shape → Words =
+    answer_follows r.after_version r.after_problem t d.version d.problem d.answer r.problem r.answer left in
+    let spelled : ProblemShape → Words =
     λ k. codes "answer" ∷ ((answer (has_hints d.version) k).spell d.answer ++ codes "end" ∷ []) in
-    let behind : Takes r.behind_problem (spelled (shape_of (named p))) t =
-    subst (λ (k : Shape). Takes r.behind_problem (spelled k) t) shape
-    (taken r.behind_version r.behind_problem t d.version d.problem d.answer r.problem r.answer).0 in
+    let behind : Takes r.after_problem (spelled (shape_of (named p))) t =
+    subst (λ (k : ProblemShape). Takes r.after_problem (spelled k) t) shape
+    (taken r.after_version r.after_problem t d.version d.problem d.answer r.problem r.answer).0 in
     subst (λ (k : Certificate). Takes s (certificate_words k) t × IsCertificate k) to.is (
-      Takes-then s (codes "certificate" ∷ version_word d.version ∷ []) r.behind_version _ t heading.0
-          (Takes-then r.behind_version (problem.spell (named p)) r.behind_problem _ t is.taken behind),
+      Takes-then s (codes "certificate" ∷ version_word d.version ∷ []) r.after_version _ t heading.0
+          (Takes-then r.after_version (problem.spell (named p)) r.after_problem _ t is.taken behind),
       record {
         problem = is.limits;
-        outcome = subst (λ (k : Shape). (outcome k).Good d.answer.outcome) shape follows.outcome;
+        outcome = subst (λ (k : ProblemShape). (outcome k).Good d.answer.outcome) shape follows.outcome;
         bounded = follows.bounded;
         proofs = follows.proofs;
       },
@@ -239,15 +241,15 @@ record IsFound (text : List ℕ) (c : Certificate) : Type 0 where
   settles : settled found ≡ Ok c
 
 abbrev ended_to : Draft → List Placed → Result Certificate Refusal
-ended_to d tokens = all_settled (ended d tokens)
+ended_to d tokens = settled_certificate_of (ended d tokens)
 
-ended_parts : (d : Draft) (tokens : List Placed) (c : Certificate) → all_settled (ended d tokens) ≡ Ok c →
+ended_parts : (d : Draft) (tokens : List Placed) (c : Certificate) → settled_certificate_of (ended d tokens) ≡ Ok c →
     (tokens ≡ []) × (settled d ≡ Ok c)
 ended_parts d [] c e = (refl, e)
 ended_parts d (t ∷ ts) c e = absurd (let f : ◌≡◌ {A = Result Certificate Refusal} (Err _) (Ok c) = e in cc)
 
 found_whole : (text : List ℕ) (c : Certificate) (r : Read Draft) → bad_byte text ≡ None → draft (text_left text) ≡ r →
-    all_settled (whole r) ≡ Ok c → IsFound text c
+    settled_certificate_of (whole r) ≡ Ok c → IsFound text c
 found_whole text c (Ok q) allowed read e =
     let parts = ended_parts q.0 q.1.tokens c e in
     record { allowed = allowed; found = q.0; left = q.1; read = read; ends = parts.0; settles = parts.1 }
@@ -255,12 +257,14 @@ found_whole text c (Err stop) allowed read e =
     absurd (let f : ◌≡◌ {A = Result Certificate Refusal} (Err _) (Ok c) = e in cc)
 
 found_in : (text : List ℕ) (c : Certificate) (bad : Option ℕ) → bad_byte text ≡ bad →
-    all_settled (drafted text bad) ≡ Ok c → IsFound text c
+    settled_certificate_of (opened draft text bad) ≡ Ok c → IsFound text c
 found_in text c (Some place) allowed e =
     absurd (let f : ◌≡◌ {A = Result Certificate Refusal} (Err _) (Ok c) = e in cc)
 found_in text c None allowed e = found_whole text c (draft (text_left text)) allowed refl e
 
-reads_from : (text : List ℕ) (c : Certificate) → length text < 2 ^ 32 → certificate_of text ≡ Ok c → Reads text c
+reads_from : (text : List ℕ) (c : Certificate) → length text < 2 ^ 32 → certificate_of text ≡ Ok c → ReadsAsCertificate
+    text c
+unfolding read_whole
 reads_from text c short e =
     let f = found_in text c (bad_byte text) refl e in
     let took =
@@ -275,7 +279,8 @@ reads_from text c short e =
     }
 
 -- the certificate of a text that is some certificate's
-pub reads_to : (text : List ℕ) (c : Certificate) → Reads text c → certificate_of text ≡ Ok c
+pub reads_to : (text : List ℕ) (c : Certificate) → ReadsAsCertificate text c → certificate_of text ≡ Ok c
+unfolding read_whole
 reads_to text c reads =
     let end : Left = record { tokens = []; end = length text } in
     let all : Takes (text_left text) (certificate_words c) end =
@@ -286,8 +291,8 @@ reads_to text c reads =
       same_end = refl;
     } in
     let has = certificate_again (text_left text) end c reads.limits all in
-    ap (λ (bad : Option ℕ). all_settled (drafted text bad)) reads.allowed
-    ∙ ap (λ (r : Read Draft). all_settled (whole r)) has.read
+    ap (λ (bad : Option ℕ). settled_certificate_of (opened draft text bad)) reads.allowed
+    ∙ ap (λ (r : Read Draft). settled_certificate_of (whole r)) has.read
     ∙ has.settles
 
 settled_so : (text : List ℕ) → length text < 2 ^ 32 → (answer : Result Certificate Refusal) →
@@ -307,13 +312,13 @@ all_texts_settled text short = settled_so text short (certificate_of text) refl
 
 -- what is read of a text is its certificate
 pub found_by : (text : List ℕ) (result : Result Certificate ReadError) → length text < 2 ^ 32 →
-    Answers (λ c. c) result (certificate_of text) → IfOk result (λ c. Reads text c)
+    Answers (λ c. c) result (certificate_of text) → IfOk result (λ c. ReadsAsCertificate text c)
 found_by text (Ok c) short h = reads_from text c short h
 found_by text (Err e) short h = tt
 
 -- a certificate's text is read as that certificate, and as no other
 pub only_by : (text : List ℕ) (result : Result Certificate ReadError) → Answers (λ c. c) result (certificate_of text) →
-    (c : Certificate) → Reads text c → Answers (λ k. k) result (Ok c)
+    (c : Certificate) → ReadsAsCertificate text c → Answers (λ k. k) result (Ok c)
 only_by text result h c reads = subst (Answers (λ k. k) result) (reads_to text c reads) h
 
 -- what is refused of a text is its first refusal

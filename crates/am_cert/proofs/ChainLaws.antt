@@ -3,10 +3,10 @@ use Rattle.std.proofs.Common.{◌≡◌, ◌-◌, ◌^◌, ◌<◌, true, false,
 use Rattle.am_chain.specs.declared.chain.Chain.{Chain}
 use Rattle.am_chain.specs.declared.chain.Step.{Step}
 use Rattle.am_syntax.specs.Exact.{IsExact, always}
-use Rattle.am_syntax.specs.Pieces.{next_is, number, syntax}
+use Rattle.am_syntax.specs.Pieces.{is_number_next, next_is, number, syntax}
 use Rattle.am_syntax.specs.Readers.{Word, Words}
 use Rattle.am_syntax.proofs.Laws.{decimal-is_digits, keyed_law, number_law, repeat_law, seen_law, then_law}
-use Rattle.am_cert.specs.Grammar.{chain, chain_of, chain_parts, code, is_number_next, log, step, step_of, step_parts}
+use Rattle.am_cert.specs.Grammar.{chain, chain_of, chain_parts, code, log, step, step_of, step_parts}
 use Rattle.am_cert.proofs.RowLaws.{EndsNumbers}
 
 -- a code is read exactly as it is spelled
@@ -34,7 +34,8 @@ chain_law seen =
     seen_law chain_of chain_parts
     (keyed_law syntax (codes "chain")
     (then_law code_law
-    (λ _ _. repeat_law step_law is_number_next step_moves (λ rest h. (h, tt)) step_begins (λ _ _ _ _. tt))
+    (λ _ _. repeat_law step_law is_number_next step_moves (λ _ _ _. refl) (λ rest h. (h, tt)) step_begins
+    (λ _ _ _ _. tt))
     (λ _ _ _ _ _ _. tt)))
     (λ x good. refl) (λ c. refl)
 
@@ -61,4 +62,4 @@ pub log_law : (name : Word) → IsExact (log name) EndsLog
 unfolding log
 log_law name =
     keyed_law syntax (codes "log") (keyed_law syntax name
-    (repeat_law chain_law (next_is (codes "chain")) chain_moves (λ rest h. h) chain_begins chain_next))
+    (repeat_law chain_law (next_is (codes "chain")) chain_moves (λ _ _ _. refl) (λ rest h. h) chain_begins chain_next))

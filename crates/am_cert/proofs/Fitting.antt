@@ -14,12 +14,12 @@ use Rattle.am_query.specs.declared.turn.Turn.TheVariants.{Negative as NegativeTu
 use Rattle.am_syntax.specs.Pieces.{keyed, times}
 use Rattle.am_syntax.specs.Spelling.{FitsSomewhere, IsScope, scope_of}
 use Rattle.am_cert.specs.Certificate.{Certificate, IsCertificate}
-use Rattle.am_cert.specs.Grammar.{Shape, asked, best, none, outcome, result_term, shape_of, spent_conflicts}
+use Rattle.am_cert.specs.Grammar.{ProblemShape, asked, best, none, outcome, result_term, shape_of, spent_conflicts}
 use Rattle.am_cert.specs.Grammar.{spent_turns, term_limits, terms, turn, turns}
 use Rattle.am_cert.specs.inside.Printable.{AreTerms, IsPrintable, IsPrintableAsked, IsPrintableTurn}
 use Rattle.am_cert.proofs.Items.{all_from_good}
 
-module _ (s : Shape) (is : IsScope (scope_of s.width (term_limits s))) where
+module _ (s : ProblemShape) (is : IsScope (scope_of s.width (term_limits s))) where
   term_fits : (t : Term) → (result_term s).Good t → FitsSomewhere t
   term_fits t good = record { scope = scope_of s.width (term_limits s); is = is; fit = good.fit }
 

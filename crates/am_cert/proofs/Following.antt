@@ -9,8 +9,10 @@ use Rattle.am_query.specs.declared.outcome.Outcome.{Outcome}
 use Rattle.am_query.specs.declared.outcome.Outcome.TheVariants.{Absent, Best, Conflicts, Turns}
 use Rattle.am_syntax.specs.Pieces.{Piece, choice, keyed, next_is, number, spelled_from}
 use Rattle.am_syntax.specs.Readers.{Word}
-use Rattle.am_cert.specs.Certificate.{AreBounded, AreHints, AreHintsOf, AreNumbers, AreProofsOf, IsBounded, IsHint}
-use Rattle.am_cert.specs.Grammar.{HintedBest, HintedNone, Shape, answer, best, chained_part, code, good_where, hint}
+use Rattle.am_cert.specs.Certificate.{AreBounded, AreCertificateNumbers, AreHints, AreHintsOf, AreProofsOf, IsBounded}
+use Rattle.am_cert.specs.Certificate.{IsHint}
+use Rattle.am_cert.specs.Grammar.{HintedBest, HintedNone, ProblemShape, answer, best, chained_part, code, good_where}
+use Rattle.am_cert.specs.Grammar.{hint}
 use Rattle.am_cert.specs.Grammar.{hinted_best, hinted_none, hinted_part, hints, log, none, numbers, outcome}
 use Rattle.am_cert.specs.Grammar.{result_term, spelled_where, turns}
 use Rattle.am_cert.specs.Versions.{has_hints}
@@ -22,7 +24,7 @@ use Rattle.am_cert.proofs.Bounds.{bytes, four_bytes, hints_bounded, outcome_boun
 use Rattle.am_cert.proofs.Items.{good_from_all}
 
 -- an outcome, and what shows it, that may stand after a problem of this shape
-pub record Stands (v : Version) (s : Shape) (o : Outcome) (shown : Proofs) : Type 0 where
+pub record Stands (v : Version) (s : ProblemShape) (o : Outcome) (shown : Proofs) : Type 0 where
   pub good : (outcome s).Good o
   pub bounded : AreBounded o
   pub proofs : AreProofsOf v o shown
@@ -32,7 +34,7 @@ none_bounded = record { chains = omega arith; steps = All-nil (λ (c : Chain). l
 
 -- ---- from the answer
 
-module _ (v : Version) (s : Shape) where
+module _ (v : Version) (s : ProblemShape) where
   abbrev hinted : Piece (HintedBest ⊎ HintedNone)
   hinted = choice (next_is (codes "best")) (hinted_best s) (hinted_none s)
 
@@ -91,7 +93,7 @@ pub good_code : (n : ℕ) → n < 2 ^ 32 → code.Good n
 unfolding number
 good_code n below = (omega arith, omega (arith, below))
 
-good_numbers : (ns : List ℕ) → AreNumbers ns → numbers.Good ns
+good_numbers : (ns : List ℕ) → AreCertificateNumbers ns → numbers.Good ns
 good_numbers ns are = good_from_all (λ _. code) (λ n. n < 2 ^ 32) (λ _ n h. good_code n h) [] ns are.small
 
 good_hint : (h : Hint) → IsHint h → hint.Good h
@@ -102,7 +104,7 @@ good_hints : (name : Word) (hs : List Hint) → AreHints hs → (hints name).Goo
 unfolding hints
 good_hints name hs are = good_from_all (λ _. hint) IsHint (λ _ h is. good_hint h is) [] hs are.each
 
-module _ (s : Shape) where
+module _ (s : ProblemShape) where
   hinted_good : (o : Outcome) (first second : List Hint) → (outcome s).Good o → AreHintsOf o first second →
       (answer true s).Good (record { outcome = o; proofs = Hinted first second })
   unfolding answer outcome best none hinted_best hinted_none

@@ -2,10 +2,10 @@
 use Rattle.std.proofs.Common.{◌≡◌, ℕ, ◌<◌, true, false, List, ◌++◌, length, codes, refl, arith}
 use Rattle.am_hint.specs.declared.hint.Hint.{Hint}
 use Rattle.am_syntax.specs.Exact.{IsExact}
-use Rattle.am_syntax.specs.Pieces.{MovesOn, next_is, number, syntax}
+use Rattle.am_syntax.specs.Pieces.{MovesOn, is_number_next, next_is, number, syntax}
 use Rattle.am_syntax.specs.Readers.{Reader, Word, Words}
 use Rattle.am_syntax.proofs.Laws.{decimal-is_digits, keyed_law, moves_on, repeat_law, seen_law, then_law}
-use Rattle.am_cert.specs.Grammar.{code, hint, hint_of, hint_parts, hints, is_number_next, numbers}
+use Rattle.am_cert.specs.Grammar.{code, hint, hint_of, hint_parts, hints, numbers}
 use Rattle.am_cert.proofs.ChainLaws.{code_law}
 use Rattle.am_cert.proofs.RowLaws.{EndsNumbers}
 
@@ -20,7 +20,7 @@ code_begins seen n rest good = decimal-is_digits n (omega (arith, good.1))
 
 pub numbers_law : IsExact numbers EndsNumbers
 numbers_law =
-    repeat_law (λ _. code_law) is_number_next code_moves (λ rest h. (h, tt)) code_begins (λ _ _ _ _. tt)
+    repeat_law (λ _. code_law) is_number_next code_moves (λ _ _ _. refl) (λ rest h. (h, tt)) code_begins (λ _ _ _ _. tt)
 
 pub hint_law : (seen : List Hint) → IsExact hint EndsNumbers
 unfolding hint
@@ -53,7 +53,7 @@ pub hints_law : (name : Word) → IsExact (hints name) EndsHints
 unfolding hints
 hints_law name =
     keyed_law syntax (codes "log") (keyed_law syntax name
-    (repeat_law hint_law (next_is (codes "clause")) hint_moves (λ rest h. h) hint_begins hint_next))
+    (repeat_law hint_law (next_is (codes "clause")) hint_moves (λ _ _ _. refl) (λ rest h. h) hint_begins hint_next))
 
 -- ---- how loops read them
 

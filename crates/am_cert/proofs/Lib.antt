@@ -11,6 +11,7 @@ pub mod Steps
 pub mod Counting
 pub mod Shaping
 pub mod CertificateLaws
+pub mod RefusedCertificates
 pub mod Numbered
 pub mod Sized
 pub mod Rising

@@ -14,7 +14,7 @@ use Rattle.am_chain.specs.declared.fault.Why.TheVariants.{NoPivot}
 use Rattle.am_chain.specs.ChainLaws.{IsRisingBelow}
 use Rattle.am_chain.specs.Chains.{Outcome, after_step, after_steps, clause_of, fault, match_result, numbered_clause}
 use Rattle.am_chain.specs.Chains.{resolution_of}
-use Rattle.am_chain.specs.Replay.{Derives, replay}
+use Rattle.am_chain.specs.Replay.{DerivesClauses, replay}
 use Rattle.am_chain.specs.Resolvent.{has_pivot, resolvent}
 use Rattle.am_chain.proofs.Laws.{IsStrictlyIncreasing-resolvent, chain_below, formula_below, from_resolvent}
 use Rattle.am_chain.proofs.Laws.{has_pivot_iff}
@@ -143,7 +143,7 @@ module _ (vars : ℕ) (given : List (List ℕ)) (ordered : All (IsRisingBelow va
 
 -- a valid log names clauses of the formula and of its chains, and variables of the formula
 pub log_numbers : (vars most : ℕ) (clauses derived : List (List ℕ)) (log : List Chain) → IsFormula clauses vars →
-    Derives clauses log derived → length clauses + length log ≤ most → All (IsChainBelow vars most) log
+    DerivesClauses clauses log derived → length clauses + length log ≤ most → All (IsChainBelow vars most) log
 log_numbers vars most clauses derived log normal derives few =
     replay_numbers vars clauses (formula_below vars clauses normal) [] derived log most (All-nil (IsRisingBelow vars))
     (omega (arith, few)) derives

@@ -5,7 +5,7 @@ use Rattle.am_text.specs.Tokens.{Left, words}
 use Rattle.am_syntax.specs.Exact.{IsExact, Takes}
 use Rattle.am_syntax.specs.Pieces.{Piece}
 use Rattle.am_syntax.specs.Readers.{Words, done, onward}
-use Rattle.am_syntax.proofs.Laws.{bind_ok, ok_is, seen_advances}
+use Rattle.am_syntax.proofs.Laws.{bind_ok, ok_is, seen_advances, seen_alike}
 use Rattle.am_cert.specs.Grammar.{good_where, seen_where, spelled_where}
 
 module _ {X Y : Type 0} {p : Piece X} {May : Words → Type 0} (to : X → Y) (from : Y → Option X) (law : IsExact p May)
@@ -28,4 +28,5 @@ module _ {X Y : Type 0} {p : Piece X} {May : Words → Type 0} (to : X → Y) (f
         (subst (λ (o : Option X). Takes s (spelled_where p o) f.0.1 × good_where p o) (sym (there f.0.0)) a);
     again = λ s y u good taken may. again_where s y u (from y) refl good taken may;
     advances = seen_advances p.read to law.advances;
+    no_further = seen_alike p.read to law.no_further law.advances;
   }

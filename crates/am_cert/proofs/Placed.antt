@@ -5,29 +5,29 @@ use Rattle.std.specs.List.{cons_option}
 use Rattle.std.proofs.lemmas.Option.{slice_get-get_or}
 use Rattle.am_syntax.specs.Pieces.{below, good_from}
 use Rattle.am_query.specs.Turns.{at_places}
-use Rattle.am_cert.specs.Grammar.{place_behind}
+use Rattle.am_cert.specs.Grammar.{place_after}
 
 -- the least place after some places and a further one
-place_behind-push : (places : List ℕ) (i : ℕ) → place_behind (places ++ i ∷ []) ≡ i + 1
-place_behind-push [] i = refl
-place_behind-push (j ∷ []) i = refl
-place_behind-push (j ∷ k ∷ places) i = place_behind-push (k ∷ places) i
+place_after-push : (places : List ℕ) (i : ℕ) → place_after (places ++ i ∷ []) ≡ i + 1
+place_after-push [] i = refl
+place_after-push (j ∷ []) i = refl
+place_after-push (j ∷ k ∷ places) i = place_after-push (k ∷ places) i
 
 -- rising places of so many, after those that were seen
 abbrev pub AreRisingFrom : ℕ → List ℕ → List ℕ → Type 0
-AreRisingFrom count seen places = good_from (λ seen. below (place_behind seen) (min count (2 ^ 32))) seen places
+AreRisingFrom count seen places = good_from (λ seen. below (place_after seen) (min count (2 ^ 32))) seen places
 
 -- they are no more than there are places
-pub few_places : (count : ℕ) (seen places : List ℕ) → place_behind seen ≤ count → AreRisingFrom count seen places →
-    place_behind seen + length places ≤ count
+pub few_places : (count : ℕ) (seen places : List ℕ) → place_after seen ≤ count → AreRisingFrom count seen places →
+    place_after seen + length places ≤ count
 unfolding below
 few_places count seen [] most rise = omega (arith, most)
 few_places count seen (i ∷ places) most rise =
-    let next : place_behind (seen ++ i ∷ []) ≡ i + 1 = place_behind-push seen i in
-    let least : place_behind seen ≤ i = rise.0.0 in
+    let next : place_after (seen ++ i ∷ []) ≡ i + 1 = place_after-push seen i in
+    let least : place_after seen ≤ i = rise.0.0 in
     let inside : i < min count (2 ^ 32) = rise.0.1 in
-    let still : place_behind (seen ++ i ∷ []) ≤ count = omega (arith, next, inside) in
-    let rest : place_behind (seen ++ i ∷ []) + length places ≤ count =
+    let still : place_after (seen ++ i ∷ []) ≤ count = omega (arith, next, inside) in
+    let rest : place_after (seen ++ i ∷ []) + length places ≤ count =
     few_places count (seen ++ i ∷ []) places still rise.1 in
     omega (arith, next, least, rest)
 

@@ -9,22 +9,22 @@ use Rattle.am_chain.specs.declared.chain.Chain.{Chain}
 use Rattle.am_chain.specs.declared.fault.ChainFault.{ChainFault}
 use Rattle.am_chain.specs.declared.fault.AddError.{AddError}
 use Rattle.am_chain.specs.declared.fault.AddError.TheVariants.{Fault}
-use Rattle.am_chain.specs.Chains.{IsFaultOf, Outcome, clause_of}
-use Rattle.am_chain.specs.Replay.{Derives, EndsEmpty}
+use Rattle.am_chain.specs.Chains.{IsChainFaultOf, Outcome, clause_of}
+use Rattle.am_chain.specs.Replay.{DerivesClauses, EndsEmpty}
 use Rattle.am_query.proofs.Laws.{logs_are_tested_in_turn}
 use Rattle.am_query.specs.Acceptance.{refuted}
 use Rattle.am_query.specs.declared.fault.Fault.TheVariants.{BadChain, NotEmpty}
 use Rattle.am_cert.specs.Certificate.{IsBounded}
 
 module _ (clauses derived : List (List ℕ)) (log : List Chain) (k : ℕ)
-    (so_far : Derives clauses (take k log) derived) where
+    (so_far : DerivesClauses clauses (take k log) derived) where
   -- there is one derived clause for each chain that was replayed
   pub derived_count : k ≤ length log → length derived ≡ k
   derived_count within = omega (arith, length-replay clauses [] derived (take k log) so_far, length-take k log)
 
   -- all chains were replayed
-  whole : length log ≤ k → Derives clauses log derived
-  whole past = subst (λ (l : List Chain). Derives clauses l derived) (take_all k log past) so_far
+  whole : length log ≤ k → DerivesClauses clauses log derived
+  whole past = subst (λ (l : List Chain). DerivesClauses clauses l derived) (take_all k log past) so_far
 
   -- a log that was replayed and ends with the empty clause passes
   pub ends_empty : (j : ℕ) → length log ≤ k → EndsEmpty derived → (refuted j clauses log).Passes
@@ -42,11 +42,11 @@ module _ (clauses derived : List (List ℕ)) (log : List Chain) (k : ℕ)
 
     -- a valid chain's clause is derived
     pub one_more : (clause : List ℕ) → clause_of (clauses ++ derived) chain ≡ Ok clause →
-        Derives clauses (take (k + 1) log) (derived ++ clause ∷ [])
+        DerivesClauses clauses (take (k + 1) log) (derived ++ clause ∷ [])
     one_more clause valid =
         let further : take (k + 1) log ≡ take k log ++ chain ∷ [] =
         take_more log k chain within ∙ ap (λ (c : Chain). take k log ++ c ∷ []) here in
-        subst (λ (l : List Chain). Derives clauses l (derived ++ clause ∷ [])) (sym further)
+        subst (λ (l : List Chain). DerivesClauses clauses l (derived ++ clause ∷ [])) (sym further)
         (replay-append clauses [] derived (take k log) chain clause so_far valid)
 
     -- the fault of a chain is the log's
@@ -63,7 +63,8 @@ module _ (clauses derived : List (List ℕ)) (log : List Chain) (k : ℕ)
         (rw (split, count) at first)
 
 -- an error that is a fault is the outcome's
-pub fault_of : (outcome : Outcome) (e : AddError) (f : ChainFault) → IsFaultOf outcome e → e ≡ Fault f → outcome ≡ Err f
+pub fault_of : (outcome : Outcome) (e : AddError) (f : ChainFault) → IsChainFaultOf outcome e → e ≡ Fault f → outcome ≡
+    Err f
 fault_of outcome e f h is = rw is at h
 
 -- the steps of a chain of a log that isn't too long

@@ -6,7 +6,7 @@ use Rattle.std.specs.List.{AllPairs, cons_option}
 use Rattle.std.proofs.lemmas.List.Elements.{All-head, All-tail}
 use Rattle.am_syntax.specs.Pieces.{below, good_from}
 use Rattle.am_query.specs.Turns.{at_places}
-use Rattle.am_cert.specs.Grammar.{place_behind, places}
+use Rattle.am_cert.specs.Grammar.{place_after, places}
 
 -- each place is below those after it
 abbrev pub Rises : List ℕ → Type 0
@@ -39,31 +39,31 @@ rising_are_few count (n ∷ ns) rises inside =
 -- ---- they are good
 
 -- the least place after some places and one more
-pub place_behind-push : (seen : List ℕ) (i : ℕ) → place_behind (seen ++ i ∷ []) ≡ i + 1
-place_behind-push [] i = refl
-place_behind-push (j ∷ []) i = refl
-place_behind-push (j ∷ k ∷ seen) i = place_behind-push (k ∷ seen) i
+pub place_after-push : (seen : List ℕ) (i : ℕ) → place_after (seen ++ i ∷ []) ≡ i + 1
+place_after-push [] i = refl
+place_after-push (j ∷ []) i = refl
+place_after-push (j ∷ k ∷ seen) i = place_after-push (k ∷ seen) i
 
 module _ (count : ℕ) (few : count ≤ 2 ^ 32) where
-  good_behind : (seen : List ℕ) (n : ℕ) (ns : List ℕ) → place_behind seen ≤ n → Rises (n ∷ ns) →
+  good_after : (seen : List ℕ) (n : ℕ) (ns : List ℕ) → place_after seen ≤ n → Rises (n ∷ ns) →
       AreBelow count (n ∷ ns) →
-      good_from (λ before. below (place_behind before) (min count (2 ^ 32))) seen (n ∷ ns)
+      good_from (λ before. below (place_after before) (min count (2 ^ 32))) seen (n ∷ ns)
   unfolding below
-  good_behind seen n [] least rises inside =
+  good_after seen n [] least rises inside =
       ((least, omega (arith, All-head (λ i. i < count) n [] inside, few)), tt)
-  good_behind seen n (m ∷ ns) least rises inside =
-      let next : place_behind (seen ++ n ∷ []) ≤ m =
-      omega (arith, place_behind-push seen n, next_higher n m ns rises) in
+  good_after seen n (m ∷ ns) least rises inside =
+      let next : place_after (seen ++ n ∷ []) ≤ m =
+      omega (arith, place_after-push seen n, next_higher n m ns rises) in
       let rest = All-tail (λ i. i < count) n (m ∷ ns) inside in (
         (least, omega (arith, All-head (λ i. i < count) n (m ∷ ns) inside, few)),
-        good_behind (seen ++ n ∷ []) m ns next (rises_on n (m ∷ ns) rises) rest,
+        good_after (seen ++ n ∷ []) m ns next (rises_on n (m ∷ ns) rises) rest,
       )
 
   -- rising places below the number are good
   pub rising_are_good : (ns : List ℕ) → Rises ns → AreBelow count ns → (places count).Good ns
   rising_are_good [] rises inside = tt
   rising_are_good (n ∷ ns) rises inside =
-      good_behind [] n ns (omega arith) rises inside
+      good_after [] n ns (omega arith) rises inside
 
 -- ---- the items at them
 

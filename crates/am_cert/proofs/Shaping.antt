@@ -10,14 +10,15 @@ use Rattle.am_problem.specs.declared.limits.TheConstants.{MOST_LOAD, MOST_SLOTS}
 use Rattle.am_syntax.specs.declared.refusal.Refusal.{Refusal}
 use Rattle.am_text.specs.Tokens.{Left}
 use Rattle.am_syntax.specs.Readers.{Reached}
-use Rattle.am_cert.specs.Grammar.{Shape, shape_of}
+use Rattle.am_cert.specs.Grammar.{ProblemShape, shape_of}
 
 -- ---- shapes
 
-pub same_shape : (a b : Shape) → a.width ≡ b.width → a.inputs ≡ b.inputs → a.fields ≡ b.fields → a.turns ≡ b.turns →
+pub same_shape : (a b : ProblemShape) → a.width ≡ b.width → a.inputs ≡ b.inputs → a.fields ≡ b.fields → a.turns ≡
+    b.turns →
     a ≡ b
 same_shape a b w i f t =
-    let at : ℕ → ℕ → ℕ → ℕ → Shape = λ w i f t. record { width = w; inputs = i; fields = f; turns = t } in
+    let at : ℕ → ℕ → ℕ → ℕ → ProblemShape = λ w i f t. record { width = w; inputs = i; fields = f; turns = t } in
     ap (λ n. at n a.inputs a.fields a.turns) w
     ∙ ap (λ n. at b.width n a.fields a.turns) i
     ∙ ap (λ n. at b.width b.inputs n a.turns) f

@@ -4,7 +4,7 @@ use Rattle.std.proofs.lemmas.List.{map-id}
 use Rattle.am_text.specs.Tokens.{Left}
 use Rattle.am_syntax.specs.Pieces.{Piece, one_more, syntax}
 use Rattle.am_syntax.specs.Exact.{IsExact}
-use Rattle.am_syntax.specs.Readers.{Gives, Makes, Reached, Reader, Words, judged}
+use Rattle.am_syntax.specs.Readers.{GivesRead, Makes, Reached, Reader, Words, judged}
 use Rattle.am_syntax.specs.declared.refusal.Cause.{Cause}
 use Rattle.am_syntax.specs.declared.refusal.Cause.TheVariants.{Count}
 use Rattle.am_syntax.specs.declared.refusal.Failure.{Failure}
@@ -20,14 +20,14 @@ makes_alike view (Err e) old new one two alike made = λ cause is. sym alike ∙
 
 -- what a call answers that is refused
 pub gives_refused : {A Y : Type 0} (view : A → Y) (r : Result A Cause) (cause : Cause) (old left : Left)
-    (reader : Reader Y) → r ≡ Err cause → reader old ≡ Err (cause, left) → Gives view r old left reader
+    (reader : Reader Y) → r ≡ Err cause → reader old ≡ Err (cause, left) → GivesRead view r old left reader
 gives_refused {A = A} view r cause old left reader is refused =
-    subst (λ (q : Result A Cause). Gives view q old left reader) (sym is) refused
+    subst (λ (q : Result A Cause). GivesRead view q old left reader) (sym is) refused
 
 -- after a piece
-pub reached_behind : {X : Type 0} {p : Piece X} {May : Words → Type 0} (s t : Left) (x : X) → IsExact p May →
+pub reached_after : {X : Type 0} {p : Piece X} {May : Words → Type 0} (s t : Left) (x : X) → IsExact p May →
     p.read s ≡ Ok (x, t) → Reached s t
-reached_behind {p = p} s t x law read = reached_ok p.read s t x law.advances read
+reached_after {p = p} s t x law read = reached_ok p.read s t x law.advances read
 
 -- items that are seen as they are
 pub makes_same : {X : Type 0} (r : Result (List X) Failure) (old new : Left) (reader : Reader (List X)) →

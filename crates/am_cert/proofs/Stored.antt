@@ -17,13 +17,13 @@ use Rattle.am_query.specs.declared.state.State.{State}
 use Rattle.am_query.specs.declared.turn.Turn.{Turn}
 use Rattle.am_query.specs.declared.turn.Turn.TheVariants.{Negative as NegativeTurn, Positive as PositiveTurn}
 use Rattle.am_syntax.specs.Pieces.{good_from, number}
-use Rattle.am_cert.specs.Grammar.{Shape, negative_count, negatives_behind, negatives_from, shape_of, turn, turns}
+use Rattle.am_cert.specs.Grammar.{ProblemShape, negative_count, negatives_after, negatives_from, shape_of, turn, turns}
 use Rattle.am_cert.specs.Grammar.{word, words}
 use Rattle.am_cert.specs.inside.Verdicts.{AreStoredAfter}
 use Rattle.am_cert.proofs.Placed.{few_places, length-placed}
 
 -- the words of a row are words of the width
-words_below : (s : Shape) (seen xs : List ℕ) → good_from (λ _. word s) seen xs → AreWords s.width xs
+words_below : (s : ProblemShape) (seen xs : List ℕ) → good_from (λ _. word s) seen xs → AreWords s.width xs
 unfolding number
 words_below s seen [] good = AreWords-nil s.width
 words_below s seen (c ∷ xs) good =
@@ -31,20 +31,20 @@ words_below s seen (c ∷ xs) good =
     let below : c < 2 ^ s.width = omega (arith, most, pow_pos s.width) in
     AreWords-cons s.width c xs below (words_below s (seen ++ c ∷ []) xs good.1)
 
-tuple_of : (s : Shape) (count : ℕ) (xs : List ℕ) → (words s count).Good xs → IsTuple s.width count xs
+tuple_of : (s : ProblemShape) (count : ℕ) (xs : List ℕ) → (words s count).Good xs → IsTuple s.width count xs
 tuple_of s count xs good = record { counted = good.0; words = words_below s [] xs good.1 }
 
-word_below : (s : Shape) (c : ℕ) → (word s).Good c → c < 2 ^ s.width
+word_below : (s : ProblemShape) (c : ℕ) → (word s).Good c → c < 2 ^ s.width
 unfolding number
 word_below s c good = let most : c ≤ 2 ^ s.width - 1 = good.1 in omega (arith, most, pow_pos s.width)
 
 negatives_from-push : (n : ℕ) (seen : List Turn) (t : Turn) →
-    negatives_from n (seen ++ t ∷ []) ≡ negatives_behind (negatives_from n seen) t
+    negatives_from n (seen ++ t ∷ []) ≡ negatives_after (negatives_from n seen) t
 negatives_from-push n [] t = refl
-negatives_from-push n (u ∷ seen) t = negatives_from-push (negatives_behind n u) seen t
+negatives_from-push n (u ∷ seen) t = negatives_from-push (negatives_after n u) seen t
 
 module _ (p : Problem) where
-  abbrev shape : Shape
+  abbrev shape : ProblemShape
   shape = shape_of (named p)
 
   -- the examples after these turns: rows, as many negative ones as the turns say, and no more than the turns

@@ -7,8 +7,8 @@ use Rattle.std.proofs.lemmas.List.Elements.{All-nil}
 use Rattle.std.proofs.lemmas.Option.{get_or_from_slice_get, slice_get_within}
 use Rattle.am_chain.specs.Replay.{EndsEmpty}
 use Rattle.am_hint.proofs.Laws.{first_hint_faults_stand, hints_grow}
-use Rattle.am_hint.specs.Hinted.{IsFaultOf}
-use Rattle.am_hint.specs.HintReplay.{AllPass, clauses_of}
+use Rattle.am_hint.specs.Hinted.{IsHintFaultOf}
+use Rattle.am_hint.specs.HintReplay.{AllPass, hint_clauses}
 use Rattle.am_hint.specs.Hints.{hint_fault}
 use Rattle.am_hint.specs.declared.fault.HintError.{HintError}
 use Rattle.am_hint.specs.declared.fault.HintError.TheVariants.{Fault}
@@ -31,16 +31,16 @@ module _ (vars : ℕ) (clauses : List (List ℕ)) (hints : List Hint) (k : ℕ) 
     whole past = subst (λ (hs : List Hint). AllPass vars clauses hs) (take_all k hints past) passed
 
     -- where all hints pass and the last clause is empty, they refute
-    pub hints_end_empty : (j : ℕ) → length hints ≤ k → EndsEmpty (clauses_of (take k hints)) →
+    pub hints_end_empty : (j : ℕ) → length hints ≤ k → EndsEmpty (hint_clauses (take k hints)) →
         (hints_refute j vars clauses hints).Passes
     hints_end_empty j past empty =
-        (whole past, subst (λ (hs : List Hint). EndsEmpty (clauses_of hs)) (take_all k hints past) empty)
+        (whole past, subst (λ (hs : List Hint). EndsEmpty (hint_clauses hs)) (take_all k hints past) empty)
 
-    pub hints_end_full : (j : ℕ) → length hints ≤ k → ¬ EndsEmpty (clauses_of (take k hints)) →
+    pub hints_end_full : (j : ℕ) → length hints ≤ k → ¬ EndsEmpty (hint_clauses (take k hints)) →
         (hints_refute j vars clauses hints).Fails (NotEmpty j)
     hints_end_full j past full =
         (hints_are_tested_in_turn j vars clauses hints).1 (whole past)
-        (subst (λ (hs : List Hint). ¬ EndsEmpty (clauses_of hs)) (take_all k hints past) full)
+        (subst (λ (hs : List Hint). ¬ EndsEmpty (hint_clauses hs)) (take_all k hints past) full)
 
     module _ (hint : Hint) (there : slice_get hints k ≡ Some hint) where
       within : k < length hints
@@ -53,18 +53,19 @@ module _ (vars : ℕ) (clauses : List (List ℕ)) (hints : List Hint) (k : ℕ) 
       further = take_more hints k hint within ∙ ap (λ (h : Hint). take k hints ++ h ∷ []) here
 
       -- a hint that passes after the others
-      pub one_passes : hint_fault vars (clauses ++ clauses_of (take k hints)) hint ≡ None →
+      pub one_passes : hint_fault vars (clauses ++ hint_clauses (take k hints)) hint ≡ None →
           AllPass vars clauses (take (k + 1) hints)
       one_passes passes =
           subst (λ (hs : List Hint). AllPass vars clauses hs) (sym further)
           (hints_grow vars clauses (take k hints) hint passed passes)
 
       -- one hint more adds its clause
-      pub one_clause : clauses_of (take (k + 1) hints) ≡ clauses_of (take k hints) ++ hint.clause ∷ []
-      one_clause = ap clauses_of further ∙ map-append (λ (h : Hint). h.clause) (take k hints) (hint ∷ [])
+      pub one_clause : hint_clauses (take (k + 1) hints) ≡ hint_clauses (take k hints) ++ hint.clause ∷ []
+      one_clause = ap hint_clauses further ∙ map-append (λ (h : Hint). h.clause) (take k hints) (hint ∷ [])
 
       -- the fault of a hint is the whole list's
-      pub hint_fails : (j : ℕ) (f : HintFault) → hint_fault vars (clauses ++ clauses_of (take k hints)) hint ≡ Some f →
+      pub hint_fails : (j : ℕ) (f : HintFault) → hint_fault vars (clauses ++ hint_clauses (take k hints)) hint ≡ Some f
+          →
           (hints_refute j vars clauses hints).Fails (BadHint j k f.place f.why)
       hint_fails j f bad =
           let rest : drop k hints ≡ hint ∷ drop (k + 1) hints =
@@ -77,7 +78,7 @@ module _ (vars : ℕ) (clauses : List (List ℕ)) (hints : List Hint) (k : ℕ) 
           (rw (split, count) at first)
 
 -- an error that is a fault is the hint's
-pub hint_fault_of : (found : Option HintFault) (e : HintError) (f : HintFault) → IsFaultOf found e → e ≡ Fault f →
+pub hint_fault_of : (found : Option HintFault) (e : HintError) (f : HintFault) → IsHintFaultOf found e → e ≡ Fault f →
     found ≡ Some f
 hint_fault_of found e f h is = rw is at h
 

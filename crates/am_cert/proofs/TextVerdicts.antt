@@ -8,7 +8,7 @@ use Rattle.am_query.specs.declared.outcome.Outcome.{Outcome}
 use Rattle.am_syntax.specs.declared.refusal.Refusal.{Refusal}
 use Rattle.am_cert.specs.Certificate.{Certificate}
 use Rattle.am_cert.specs.Checking.{AcceptedTextsPass, HasFault, acceptance_with}
-use Rattle.am_cert.specs.Texts.{Reads, certificate_of}
+use Rattle.am_cert.specs.Texts.{IsOneCertificate, certificate_of}
 use Rattle.am_cert.specs.Versions.{folds}
 use Rattle.am_cert.specs.declared.answer.Proofs.{Proofs}
 use Rattle.am_cert.specs.declared.answer.Proofs.TheVariants.{Chains, Hinted}
@@ -16,7 +16,7 @@ use Rattle.am_cert.specs.declared.feed.FeedEnd.TheVariants.{NoMemory, Refused, R
 use Rattle.am_cert.proofs.CertificateLaws.{reads_to}
 
 -- what is some certificate's text is no other one's
-one_certificate : (text : List ℕ) (c d : Certificate) → Reads text c → Reads text d → c ≡ d
+pub one_certificate : (text : List ℕ) → IsOneCertificate text
 one_certificate text c d one other =
     let e : ◌≡◌ {A = Result Certificate Refusal} (Ok c) (Ok d) = sym (reads_to text c one) ∙ reads_to text d other in cc
 

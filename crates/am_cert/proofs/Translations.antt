@@ -16,7 +16,7 @@ use Rattle.am_lit.specs.declared.formula.Formula.{Formula}
 use Rattle.am_problem.specs.Problem.{Problem}
 use Rattle.am_query.proofs.Laws.{derivable}
 use Rattle.am_query.specs.Acceptance.{acceptance}
-use Rattle.am_query.specs.Formulas.{circuit_of}
+use Rattle.am_query.specs.Formulas.{query_circuit}
 use Rattle.am_query.specs.Transformers.{IsTransformerOf}
 use Rattle.am_query.specs.Turns.{after_trace}
 use Rattle.am_query.specs.declared.outcome.Outcome.{Outcome}
@@ -27,7 +27,7 @@ use Rattle.am_cert.specs.Certificate.{AreBounded, AreHints, AreHintsOf, AreProof
 use Rattle.am_cert.specs.Certificate.{IsCertificate}
 use Rattle.am_cert.specs.Checking.{IsAcceptable, acceptance_with}
 use Rattle.am_problem.specs.Texts.{named}
-use Rattle.am_cert.specs.Grammar.{Shape, best, log, none, outcome, shape_of, spent_conflicts, spent_turns}
+use Rattle.am_cert.specs.Grammar.{ProblemShape, best, log, none, outcome, shape_of, spent_conflicts, spent_turns}
 use Rattle.am_cert.specs.Translating.{IsTranslation, without_logs}
 use Rattle.am_cert.specs.Versions.{folds, has_hints, with_hints}
 use Rattle.am_cert.specs.declared.answer.Proofs.{Proofs}
@@ -74,9 +74,9 @@ pub record HasBest (c : Certificate) (t : List Term) (trace : List Turn) (sound_
   pub accepted : (acceptance (folds c.version) c.problem (Best t trace sound_log best_log)).Passes
   pub transformer : IsTransformerOf c.problem t
   pub stored : AreStoredAfter c.problem trace
-  pub sound : Refutes (circuit_of (folds c.version) c.problem (Sound t)).clauses sound_log
+  pub sound : Refutes (query_circuit (folds c.version) c.problem (Sound t)).clauses sound_log
   pub closest : let s = after_trace trace in
-      Refutes (circuit_of (folds c.version) c.problem (Precise t s.positives s.negatives)).clauses best_log
+      Refutes (query_circuit (folds c.version) c.problem (Precise t s.positives s.negatives)).clauses best_log
   pub bounded : IsBounded sound_log × IsBounded best_log
 
 -- what an accepted certificate of a best transformer has
@@ -102,7 +102,7 @@ has_best c is none accepted t trace sound_log best_log same =
 pub record HasNone (c : Certificate) (trace : List Turn) (log : List Chain) : Type 0 where
   pub accepted : (acceptance (folds c.version) c.problem (Absent trace log)).Passes
   pub stored : AreStoredAfter c.problem trace
-  pub refutes : Refutes (circuit_of (folds c.version) c.problem (Fit (after_trace trace).positives [])).clauses log
+  pub refutes : Refutes (query_circuit (folds c.version) c.problem (Fit (after_trace trace).positives [])).clauses log
   pub bounded : IsBounded log
 
 -- what an accepted certificate has where none is sound
@@ -132,7 +132,7 @@ logs_alike folding p (Turns trace) first second passes = passes
 logs_alike folding p (Conflicts trace asked log) first second passes = passes
 
 -- an outcome without logs can be written where the outcome can
-pub good_without_logs : (s : Shape) (o : Outcome) → (outcome s).Good o → (outcome s).Good (without_logs o)
+pub good_without_logs : (s : ProblemShape) (o : Outcome) → (outcome s).Good o → (outcome s).Good (without_logs o)
 unfolding outcome best none spent_turns spent_conflicts log
 good_without_logs s (Best t trace sound_log best_log) good = (good.0, (good.1.0, (tt, tt)))
 good_without_logs s (Absent trace log) good = (good.0, tt)

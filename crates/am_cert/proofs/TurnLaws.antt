@@ -7,10 +7,10 @@ use Rattle.am_syntax.specs.Exact.{IsExact, always}
 use Rattle.am_syntax.specs.Pieces.{next_is, syntax}
 use Rattle.am_syntax.specs.Readers.{Words}
 use Rattle.am_syntax.proofs.Laws.{choice_law, keyed_law, one_more_law, repeat_law, seen_law, then_law}
-use Rattle.am_cert.specs.Grammar.{CounterParts, ExampleParts, Shape, counterexample, example, is_turn_next}
+use Rattle.am_cert.specs.Grammar.{CounterParts, ExampleParts, ProblemShape, counterexample, example, is_turn_next}
 use Rattle.am_cert.specs.Grammar.{negative_count}
 use Rattle.am_cert.specs.Grammar.{turn, turn_of, turn_parts, turns}
-use Rattle.am_cert.specs.inside.Shapes.{IsShape}
+use Rattle.am_cert.specs.inside.Shapes.{IsProblemShape}
 use Rattle.am_cert.proofs.RowLaws.{EndsNumbers, narrow_law, places_law, terms_law, word_law, words_law}
 
 parts_of : (x : ExampleParts ⊎ CounterParts) → turn_parts (turn_of x) ≡ x
@@ -25,7 +25,7 @@ of_parts (NegativeTurn t e) = refl
 abbrev pub EndsTurns : Words → Type 0
 EndsTurns rest = (is_turn_next rest ≡ false) × EndsNumbers rest
 
-module _ (s : Shape) (is : IsShape s) where
+module _ (s : ProblemShape) (is : IsProblemShape s) where
   -- an example is read as it is spelled, and spelled as it is read
   pub example_law : (count : ℕ) → IsExact (example s count) EndsNumbers
   example_law count =
@@ -50,7 +50,7 @@ module _ (s : Shape) (is : IsShape s) where
       (seen_law turn_of turn_parts
       (choice_law (next_is (codes "positive")) (keyed_law syntax (codes "positive") (example_law (negative_count seen)))
       (narrow_law (keyed_law syntax (codes "negative") counterexample_law) (λ _ _. tt))
-      (λ _ _ _. refl) (λ _ _ _. refl))
+      (λ _ _ _. refl) (λ _ _ _. refl) (λ _ _ _. refl))
       (λ x good. parts_of x) of_parts)
 
   -- a turn takes a word at least
@@ -76,4 +76,5 @@ module _ (s : Shape) (is : IsShape s) where
   pub turns_law : (most : ℕ) → IsExact (turns s most) EndsTurns
   unfolding turns
   turns_law most =
-      repeat_law (turn_law most) is_turn_next (turn_moves most) (λ rest h. h) (turn_begins most) (turn_next most)
+      repeat_law (turn_law most) is_turn_next (turn_moves most) (λ _ _ _. refl) (λ rest h. h)
+      (turn_begins most) (turn_next most)

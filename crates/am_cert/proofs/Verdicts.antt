@@ -66,20 +66,20 @@ module _ (q p : Problem) (same : q ≡ p) where
         subst (λ (s : State). IsVerdictOf (negatives_true p t s.negatives) r) after there
 
     -- where the terms and the positive examples pass, the verdict is that of the tests after them
-    pub behind_positives : (t : List Term) (rest : Test) (r : Result (Unit {0}) CheckFail) →
+    pub after_positives : (t : List Term) (rest : Test) (r : Result (Unit {0}) CheckFail) →
         (terms_inside q t).Passes → (positives_true q s.positives).Passes → IsVerdictOf rest r →
         IsVerdictOf (terms_inside p t before positives_true p e.positives before rest) r
-    behind_positives t rest r inside positives h =
+    after_positives t rest r inside positives h =
         first_passed _ _ r (terms_here t (Ok tt) inside) (first_passed _ _ r (positives_here (Ok tt) positives) h)
 
     -- where the negative examples pass too, it is that of the tests after those
-    pub behind_examples : (t : List Term) (rest : Test) (r : Result (Unit {0}) CheckFail) →
+    pub after_examples : (t : List Term) (rest : Test) (r : Result (Unit {0}) CheckFail) →
         (terms_inside q t).Passes → (positives_true q s.positives).Passes → (negatives_true q t s.negatives).Passes →
         IsVerdictOf rest r →
         IsVerdictOf (terms_inside p t before positives_true p e.positives before negatives_true p t e.negatives
         before rest) r
-    behind_examples t rest r inside positives negatives h =
-        behind_positives t (negatives_true p t e.negatives before rest) r inside positives
+    after_examples t rest r inside positives negatives h =
+        after_positives t (negatives_true p t e.negatives before rest) r inside positives
         (first_passed _ _ r (negatives_here t (Ok tt) negatives) h)
 
 -- ---- of a certificate

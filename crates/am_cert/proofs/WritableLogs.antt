@@ -1,13 +1,13 @@
 -- Logs over the formulas of queries can be written.
 use Rattle.std.proofs.Common.{ℕ, ◌+◌, ◌^◌, ◌<◌, ◌≤◌, List, [], All, length, arith, true}
 use Rattle.std.proofs.lemmas.List.Elements.{All-weaker}
-use Rattle.am_chain.specs.Replay.{Derives}
+use Rattle.am_chain.specs.Replay.{DerivesClauses}
 use Rattle.am_chain.specs.declared.chain.Chain.{Chain}
 use Rattle.am_chain.specs.declared.chain.Step.{Step}
 use Rattle.am_problem.specs.Limits.{IsProblem}
 use Rattle.am_problem.specs.Problem.{Problem}
-use Rattle.am_query.specs.Answers.{IsNumbered, IsRefuted, IsSpentOn}
-use Rattle.am_query.specs.Formulas.{circuit_of}
+use Rattle.am_query.specs.Answers.{IsNumberedQuery, IsRefuted, IsSpentOn}
+use Rattle.am_query.specs.Formulas.{query_circuit}
 use Rattle.am_query.specs.declared.query.Query.{Query}
 use Rattle.am_solve.specs.Answers.{ChainsAreShort}
 use Rattle.am_syntax.specs.Readers.{Word}
@@ -42,14 +42,15 @@ pub record IsWritten (chains : List Chain) : Type 0 where
   pub bounded : IsBounded chains
 
 -- a valid log of few chains, over the formula of a query
-written : (p : Problem) (q : Query) (chains : List Chain) (derived : List (List ℕ)) → IsNumbered p q →
-    Derives (circuit_of true p q).clauses chains derived → ChainsAreShort (circuit_of true p q).vars chains →
+written : (p : Problem) (q : Query) (chains : List Chain) (derived : List (List ℕ)) → IsNumberedQuery p q →
+    DerivesClauses (query_circuit true p q).clauses chains derived → ChainsAreShort (query_circuit true p q).vars chains
+    →
     length chains < 2 ^ 30 → IsWritten chains
 written p q chains derived numbered derives short few =
-    let vars = (circuit_of true p q).vars in
-    let all : length (circuit_of true p q).clauses + length chains ≤ 2 ^ 32 =
+    let vars = (query_circuit true p q).vars in
+    let all : length (query_circuit true p q).clauses + length chains ≤ 2 ^ 32 =
     omega (arith, numbered.few_clauses, few) in
-    let are = log_numbers vars (2 ^ 32) (circuit_of true p q).clauses derived chains numbered.normal derives all in
+    let are = log_numbers vars (2 ^ 32) (query_circuit true p q).clauses derived chains numbered.normal derives all in
     record {
       good = λ name. good_log vars (2 ^ 32) (omega (arith, numbered.few_vars)) (omega arith) name chains are;
       bounded = record {

@@ -22,7 +22,8 @@ use Rattle.am_query.specs.declared.asked.Asked.TheVariants.{Keep, Precise, Sound
 use Rattle.am_query.specs.declared.state.State.{State}
 use Rattle.am_query.specs.declared.turn.Turn.{Turn}
 use Rattle.am_query.specs.declared.turn.Turn.TheVariants.{Negative as NegativeTurn, Positive as PositiveTurn}
-use Rattle.am_cert.specs.Grammar.{Shape, asked, negative_count, negatives_behind, negatives_from, places, result_term}
+use Rattle.am_cert.specs.Grammar.{ProblemShape, asked, negative_count, negatives_after, negatives_from, places}
+use Rattle.am_cert.specs.Grammar.{result_term}
 use Rattle.am_cert.specs.Grammar.{shape_of, terms, turn, turns, word, words}
 use Rattle.am_cert.proofs.Items.{good_from_all}
 use Rattle.am_cert.proofs.Rising.{AreBelow, Rises, as_many_at, rising_are_few, rising_are_good}
@@ -30,12 +31,12 @@ use Rattle.am_cert.proofs.Sized.{transformers_are_small}
 
 -- one turn more
 negatives_from-push : (count : ℕ) (seen : List Turn) (t : Turn) →
-    negatives_from count (seen ++ t ∷ []) ≡ negatives_behind (negatives_from count seen) t
+    negatives_from count (seen ++ t ∷ []) ≡ negatives_after (negatives_from count seen) t
 negatives_from-push count [] t = refl
-negatives_from-push count (u ∷ seen) t = negatives_from-push (negatives_behind count u) seen t
+negatives_from-push count (u ∷ seen) t = negatives_from-push (negatives_after count u) seen t
 
 module _ (p : Problem) (is : IsProblem p) where
-  abbrev s : Shape
+  abbrev s : ProblemShape
   s = shape_of (named p)
 
   -- ---- terms and rows

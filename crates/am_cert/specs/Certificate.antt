@@ -42,14 +42,14 @@ AreBounded (Conflicts trace asked log) = IsBounded log
 -- ---- hints
 
 -- fewer than 2^31 numbers of 32 bits
-pub record AreNumbers (numbers : List ℕ) : Type 0 where
+pub record AreCertificateNumbers (numbers : List ℕ) : Type 0 where
   pub few : length numbers < 2 ^ 31
   pub small : All (λ n. n < 2 ^ 32) numbers
 
 -- a hint whose codes and places are such numbers
 pub record IsHint (hint : Hint) : Type 0 where
-  pub codes : AreNumbers hint.clause
-  pub places : AreNumbers hint.by
+  pub codes : AreCertificateNumbers hint.clause
+  pub places : AreCertificateNumbers hint.by
 
 -- fewer than 2^30 hints
 pub record AreHints (hints : List Hint) : Type 0 where

@@ -1,14 +1,15 @@
 -- When a certificate is accepted, and what its acceptance says.
-use Rattle.std.specs.Prelude.{◌≡◌, ℕ, ◌≤◌, ◌<◌, Bool, List, length, Result, Ok, Err, ◌⊎◌}
+use Rattle.std.specs.Prelude.{◌≡◌, ℕ, ◌^◌, ◌≤◌, ◌<◌, Bool, List, length, Result, Ok, Err, ◌⊎◌}
 use Rattle.am_query.specs.Acceptance.{Test, acceptance, hinted_acceptance}
 use Rattle.am_query.specs.AcceptanceLaws.{IsRight}
 use Rattle.am_problem.specs.Problem.{Problem}
 use Rattle.am_query.specs.declared.fault.Fault.{Fault}
 use Rattle.am_query.specs.declared.outcome.Outcome.{Outcome}
+use Rattle.am_query.specs.declared.outcome.Outcome.TheVariants.{Absent, Best, Conflicts, Turns}
 use Rattle.am_syntax.specs.declared.refusal.Refusal.{Refusal}
 use Rattle.am_syntax.specs.declared.refusal.Refusal.TheVariants.{Long}
 use Rattle.am_cert.specs.Certificate.{Certificate}
-use Rattle.am_cert.specs.Texts.{Reads, certificate_of}
+use Rattle.am_cert.specs.Texts.{ReadsAsCertificate, certificate_of}
 use Rattle.am_cert.specs.Versions.{folds}
 use Rattle.am_cert.specs.declared.answer.Proofs.{Proofs}
 use Rattle.am_cert.specs.declared.answer.Proofs.TheVariants.{Chains, Hinted}
@@ -17,7 +18,6 @@ use Rattle.am_cert.specs.declared.checking.CheckFail.TheVariants.{NoMemory, Reje
 use Rattle.am_cert.specs.declared.feed.FeedEnd.{FeedEnd}
 use Rattle.am_cert.specs.declared.feed.FeedEnd.TheVariants as feed
 use Rattle.am_cert.specs.declared.feed.FeedEnd.TheVariants.{Refused}
-use Rattle.am_cert.specs.declared.limits.TheConstants.{MOST_BYTES}
 
 -- the test of an outcome over formulas of a form, by its logs or by hints
 abbrev pub acceptance_with : Bool → Problem → Outcome → Proofs → Test
@@ -41,17 +41,24 @@ abbrev pub IsFailureOf : Certificate → CheckFail → Type 0
 IsFailureOf c (Rejected f) = HasFault c f
 IsFailureOf c NoMemory = Unit {0}
 
+-- the synthesis didn't end: its turns or its conflicts were spent
+abbrev pub IsUnfinished : Outcome → Type 0
+IsUnfinished (Best terms trace sound_log best_log) = ⊥
+IsUnfinished (Absent trace log) = ⊥
+IsUnfinished (Turns trace) = Unit {0}
+IsUnfinished (Conflicts trace asked log) = Unit {0}
+
 -- ---- whole texts
 
 -- the text is longer than any input may be, or is no certificate's, and this is its first refusal
 abbrev pub IsRefusalOf : List ℕ → Refusal → Type 0
 IsRefusalOf text r =
-    ((MOST_BYTES < length text) × (r ≡ Long)) ⊎ ((length text ≤ MOST_BYTES) × (certificate_of text ≡ Err r))
+    ((2 ^ 26 < length text) × (r ≡ Long)) ⊎ ((length text ≤ 2 ^ 26) × (certificate_of text ≡ Err r))
 
 -- a text that isn't too long is this certificate's
 pub record IsInputOf (text : List ℕ) (c : Certificate) : Type 0 where
-  pub short : length text ≤ MOST_BYTES
-  pub reads : Reads text c
+  pub short : length text ≤ 2 ^ 26
+  pub reads : ReadsAsCertificate text c
 
 -- the text is an accepted certificate's, whose outcome is right; or it is refused; or its certificate has this first
 -- fault

@@ -15,8 +15,8 @@ use Rattle.am_query.specs.declared.outcome.Outcome.TheVariants.{Absent, Best, Co
 use Rattle.am_query.specs.declared.turn.Turn.{Turn}
 use Rattle.am_query.specs.declared.turn.Turn.TheVariants.{Negative as NegativeTurn, Positive as PositiveTurn}
 use Rattle.am_syntax.specs.Numerals.{is_digits}
-use Rattle.am_syntax.specs.Pieces.{◌▹◌, Piece, below, choice, key, keyed, next_is, number, one_more, repeat, seen_as}
-use Rattle.am_syntax.specs.Pieces.{times, token}
+use Rattle.am_syntax.specs.Pieces.{◌▹◌, Piece, below, choice, is_number_next, key, keyed, next_is, number, one_more}
+use Rattle.am_syntax.specs.Pieces.{repeat, seen_as, times, token}
 use Rattle.am_syntax.specs.Readers.{◌>>=◌, Word, Words, done}
 use Rattle.am_syntax.specs.Terms.{term}
 use Rattle.am_syntax.specs.declared.limits.Letter.TheVariants.{F}
@@ -26,7 +26,6 @@ use Rattle.am_syntax.specs.declared.refusal.Cause.TheVariants.{Number, Syntax}
 use Rattle.am_cert.specs.declared.answer.Answer.{Answer}
 use Rattle.am_cert.specs.declared.answer.Proofs.{Proofs}
 use Rattle.am_cert.specs.declared.answer.Proofs.TheVariants.{Chains, Hinted}
-use Rattle.am_cert.specs.declared.limits.TheConstants.{MOST_NESTING, MOST_TERM_NODES}
 use Rattle.am_cert.specs.declared.version.Version.{Version}
 use Rattle.am_cert.specs.declared.version.Version.TheVariants.{Four, One, Three, Two}
 
@@ -56,14 +55,14 @@ version = token version_judge version_word (λ _. Unit {0})
 
 -- what a problem says of the rows after it: the width, the number of inputs, the fields of an abstract value, and the
 -- turns
-pub record Shape : Type 0 where
+pub record ProblemShape : Type 0 where
   pub width : ℕ
   pub inputs : ℕ
   pub fields : ℕ
   pub turns : ℕ
 
 -- what a problem's lines say of the rows after it
-abbrev pub shape_of : Lines → Shape
+abbrev pub shape_of : Lines → ProblemShape
 shape_of l = record {
   width = l.header.width;
   inputs = l.header.inputs;
@@ -72,52 +71,47 @@ shape_of l = record {
 }
 
 -- the letter of fields, how many there are, and the most nodes and nesting of a term
-abbrev pub term_limits : Shape → TermLimits
+abbrev pub term_limits : ProblemShape → TermLimits
 term_limits s =
-    record { letter = F; variables = s.inputs * s.fields; nodes = MOST_TERM_NODES; nesting = MOST_NESTING }
+    record { letter = F; variables = s.inputs * s.fields; nodes = 16384; nesting = 128 }
 
 -- a term over the fields of all inputs
-abbrev pub result_term : Shape → Piece Term
+abbrev pub result_term : ProblemShape → Piece Term
 result_term s = term s.width (term_limits s)
 
 -- a term for each field
-abbrev pub terms : Shape → Piece (List Term)
+abbrev pub terms : ProblemShape → Piece (List Term)
 terms s = times (λ _. result_term s) s.fields
 
 -- a word of the width
-abbrev pub word : Shape → Piece ℕ
+abbrev pub word : ProblemShape → Piece ℕ
 word s = number 0 (2 ^ s.width - 1)
 
 -- so many words
-abbrev pub words : Shape → ℕ → Piece (List ℕ)
+abbrev pub words : ProblemShape → ℕ → Piece (List ℕ)
 words s count = times (λ _. word s) count
 
--- whether a row of digits comes
-abbrev pub is_number_next : Words → Bool
-is_number_next [] = false
-is_number_next (v ∷ vs) = is_digits v
-
 -- the least place after others
-abbrev pub place_behind : List ℕ → ℕ
-place_behind [] = 0
-place_behind (i ∷ []) = i + 1
-place_behind (i ∷ j ∷ places) = place_behind (j ∷ places)
+abbrev pub place_after : List ℕ → ℕ
+place_after [] = 0
+place_after (i ∷ []) = i + 1
+place_after (i ∷ j ∷ places) = place_after (j ∷ places)
 
 -- rising places of so many, which are numbers of 32 bits
 abbrev pub places : ℕ → Piece (List ℕ)
-places count = repeat is_number_next (λ seen. below (place_behind seen) (min count (2 ^ 32)))
+places count = repeat is_number_next (λ seen. below (place_after seen) (min count (2 ^ 32)))
 
 -- ---- turns
 
 -- how many negative examples there are after a turn: those that a positive one keeps, or one more
-abbrev pub negatives_behind : ℕ → Turn → ℕ
-negatives_behind count (PositiveTurn t e kept) = length kept
-negatives_behind count (NegativeTurn t e) = count + 1
+abbrev pub negatives_after : ℕ → Turn → ℕ
+negatives_after count (PositiveTurn t e kept) = length kept
+negatives_after count (NegativeTurn t e) = count + 1
 
 -- how many negative examples there are after further turns
 abbrev pub negatives_from : ℕ → List Turn → ℕ
 negatives_from count [] = count
-negatives_from count (t ∷ trace) = negatives_from (negatives_behind count t) trace
+negatives_from count (t ∷ trace) = negatives_from (negatives_after count t) trace
 
 -- how many negative examples there are after a trace
 abbrev pub negative_count : List Turn → ℕ
@@ -128,7 +122,7 @@ abbrev pub ExampleParts : Type 0
 ExampleParts = List Term × (List ℕ × (List ℕ × List ℕ))
 
 -- terms, the fields of all inputs, a word for each input, and the places that are kept
-abbrev pub example : Shape → ℕ → Piece ExampleParts
+abbrev pub example : ProblemShape → ℕ → Piece ExampleParts
 example s count =
     terms s ▹ λ _.
     keyed (codes "in") (words s (s.inputs * s.fields)) ▹ λ _.
@@ -140,7 +134,7 @@ abbrev pub CounterParts : Type 0
 CounterParts = List Term × (List ℕ × ℕ)
 
 -- terms, the fields of all inputs, and a word
-abbrev pub counterexample : Shape → Piece CounterParts
+abbrev pub counterexample : ProblemShape → Piece CounterParts
 counterexample s =
     terms s ▹ λ _. keyed (codes "in") (words s (s.inputs * s.fields)) ▹ λ _. keyed (codes "out") (word s)
 
@@ -155,7 +149,7 @@ turn_parts (PositiveTurn t e kept) = inl (t, (e.inputs, (e.words, kept)))
 turn_parts (NegativeTurn t e) = inr (t, (e.inputs, e.word))
 
 -- a turn after others, of so many at most
-unfoldable pub turn : Shape → ℕ → List Turn → Piece Turn
+unfoldable pub turn : ProblemShape → ℕ → List Turn → Piece Turn
 turn s most seen =
     one_more (nat_lt (length seen) most) (seen_as turn_of turn_parts (choice (next_is (codes "positive"))
     (keyed (codes "positive") (example s (negative_count seen)))
@@ -167,7 +161,7 @@ is_turn_next [] = false
 is_turn_next (v ∷ vs) = bytes_eq v (codes "positive") || bytes_eq v (codes "negative")
 
 -- at most so many turns
-unfoldable pub turns : Shape → ℕ → Piece (List Turn)
+unfoldable pub turns : ProblemShape → ℕ → Piece (List Turn)
 turns s most = repeat is_turn_next (turn s most)
 
 -- ---- logs
@@ -247,7 +241,7 @@ asked_parts (Sound t) = inr (inr (inl t))
 asked_parts (Precise t) = inr (inr (inr t))
 
 -- query start, or query keep EXAMPLE, query sound TERMS, query precise TERMS, after a trace
-unfoldable pub asked : Shape → List Turn → Piece Asked
+unfoldable pub asked : ProblemShape → List Turn → Piece Asked
 asked s trace = keyed (codes "query") (seen_as asked_of asked_parts (
     choice (next_is (codes "start")) (key (codes "start")) (
     choice (next_is (codes "keep")) (keyed (codes "keep") (example s (negative_count trace))) (
@@ -272,11 +266,11 @@ abbrev pub OutcomeParts : Type 0
 OutcomeParts = BestParts ⊎ (NoneParts ⊎ (List Turn ⊎ ConflictParts))
 
 -- the outcome of its parts
-abbrev pub outcome_of : OutcomeParts → Outcome
-outcome_of (inl (t, (trace, (sound_log, best_log)))) = Best t trace sound_log best_log
-outcome_of (inr (inl (trace, log))) = Absent trace log
-outcome_of (inr (inr (inl trace))) = Turns trace
-outcome_of (inr (inr (inr (trace, (asked, log))))) = Conflicts trace asked log
+abbrev pub outcome_of_parts : OutcomeParts → Outcome
+outcome_of_parts (inl (t, (trace, (sound_log, best_log)))) = Best t trace sound_log best_log
+outcome_of_parts (inr (inl (trace, log))) = Absent trace log
+outcome_of_parts (inr (inr (inl trace))) = Turns trace
+outcome_of_parts (inr (inr (inr (trace, (asked, log))))) = Conflicts trace asked log
 
 -- the parts of an outcome
 abbrev pub outcome_parts : Outcome → OutcomeParts
@@ -286,7 +280,7 @@ outcome_parts (Turns trace) = inr (inr (inl trace))
 outcome_parts (Conflicts trace asked log) = inr (inr (inr (trace, (asked, log))))
 
 -- best { term TERM } { TURN } log sound { CHAIN } log best { CHAIN }
-unfoldable pub best : Shape → Piece BestParts
+unfoldable pub best : ProblemShape → Piece BestParts
 best s = keyed (codes "best") (
     times (λ _. keyed (codes "term") (result_term s)) s.fields ▹ λ _.
     turns s s.turns ▹ λ _.
@@ -294,21 +288,21 @@ best s = keyed (codes "best") (
     log (codes "best"))
 
 -- none { TURN } log fit { CHAIN }
-unfoldable pub none : Shape → Piece NoneParts
+unfoldable pub none : ProblemShape → Piece NoneParts
 none s = keyed (codes "none") (turns s s.turns ▹ λ _. log (codes "fit"))
 
 -- turns { TURN }, of which there may be one more
-unfoldable pub spent_turns : Shape → Piece (List Turn)
+unfoldable pub spent_turns : ProblemShape → Piece (List Turn)
 spent_turns s = keyed (codes "turns") (turns s (s.turns + 1))
 
 -- conflicts { TURN } QUERY log spent { CHAIN }
-unfoldable pub spent_conflicts : Shape → Piece ConflictParts
+unfoldable pub spent_conflicts : ProblemShape → Piece ConflictParts
 spent_conflicts s =
     keyed (codes "conflicts") (turns s s.turns ▹ λ trace. asked s trace ▹ λ _. log (codes "spent"))
 
 -- how a synthesis ended, with chains
-unfoldable pub outcome : Shape → Piece Outcome
-outcome s = seen_as outcome_of outcome_parts (
+unfoldable pub outcome : ProblemShape → Piece Outcome
+outcome s = seen_as outcome_of_parts outcome_parts (
     choice (next_is (codes "best")) (best s) (
     choice (next_is (codes "none")) (none s) (
     choice (next_is (codes "turns")) (spent_turns s)
@@ -364,7 +358,7 @@ hinted_part (Absent trace []) (Hinted first []) = Some (inr (trace, first))
 hinted_part o proofs = None
 
 -- best { term TERM } { TURN } log sound { HINT } log best { HINT }
-unfoldable pub hinted_best : Shape → Piece HintedBest
+unfoldable pub hinted_best : ProblemShape → Piece HintedBest
 hinted_best s = keyed (codes "best") (
     times (λ _. keyed (codes "term") (result_term s)) s.fields ▹ λ _.
     turns s s.turns ▹ λ _.
@@ -372,11 +366,11 @@ hinted_best s = keyed (codes "best") (
     hints (codes "best"))
 
 -- none { TURN } log fit { HINT }
-unfoldable pub hinted_none : Shape → Piece HintedNone
+unfoldable pub hinted_none : ProblemShape → Piece HintedNone
 hinted_none s = keyed (codes "none") (turns s s.turns ▹ λ _. hints (codes "fit"))
 
 -- what stands after `answer`: how a synthesis ended, with hints or with chains
-unfoldable pub answer : Bool → Shape → Piece Answer
+unfoldable pub answer : Bool → ProblemShape → Piece Answer
 answer true s =
     seen_where hinted_of (λ a. hinted_part a.outcome a.proofs)
     (choice (next_is (codes "best")) (hinted_best s) (hinted_none s))

@@ -25,7 +25,7 @@ use Rattle.am_syntax.specs.Spelling.{letter_code, term_words}
 use Rattle.am_syntax.specs.declared.limits.Letter.TheVariants.{F}
 use Rattle.am_cert.specs.Certificate.{Certificate, IsCertificate}
 use Rattle.am_cert.specs.Grammar.{version_word}
-use Rattle.am_cert.specs.Texts.{Reads}
+use Rattle.am_cert.specs.Texts.{ReadsAsCertificate}
 use Rattle.am_cert.specs.Versions.{has_hints}
 use Rattle.am_cert.specs.declared.answer.Proofs.{Proofs}
 use Rattle.am_cert.specs.declared.answer.Proofs.TheVariants.{Chains, Hinted}
@@ -124,7 +124,7 @@ certificate_text c = lines (certificate_rows c)
 
 -- what was printed reads back
 abbrev pub CanonicalCertificatesAreRead : Type 0
-CanonicalCertificatesAreRead = (c : Certificate) → IsCertificate c → Reads (certificate_text c) c
+CanonicalCertificatesAreRead = (c : Certificate) → IsCertificate c → ReadsAsCertificate (certificate_text c) c
 
 -- ---- which outcomes can be written
 

@@ -1,15 +1,14 @@
 -- A certificate's whole text: what it says, and the first refusal of each that says nothing.
 use Rattle.std.specs.Prelude.{◌≡◌, ℕ, ◌+◌, ◌≤◌, ◌^◌, ◌||◌, bytes_eq, if◌then◌else◌, List, [], ◌∷◌, ◌++◌, codes, length}
-use Rattle.std.specs.Prelude.{sum_by, Option, Some, None, Result, Ok, Err, ◌⊎◌}
-use Rattle.am_text.specs.Tokens.{Left, bad_byte, text_left, words, words_of}
+use Rattle.std.specs.Prelude.{sum_by, None, Result, Ok, Err, ◌⊎◌}
+use Rattle.am_text.specs.Tokens.{Left, bad_byte, words, words_of}
 use Rattle.am_problem.specs.Grammar.{problem}
 use Rattle.am_problem.specs.Problem.{Problem}
 use Rattle.am_problem.specs.Texts.{Draft as ProblemDraft, draft as problem_draft, named, settled as settled_problem}
 use Rattle.am_syntax.specs.Pieces.{closed, keyed}
 use Rattle.am_syntax.specs.Readers.{◌>>=◌, Reader, Word, Words, done}
-use Rattle.am_syntax.specs.Texts.{whole}
+use Rattle.am_syntax.specs.Texts.{RefusesForGood, read_whole}
 use Rattle.am_syntax.specs.declared.refusal.Refusal.{Refusal}
-use Rattle.am_syntax.specs.declared.refusal.Refusal.TheVariants.{BadByte}
 use Rattle.am_cert.specs.Certificate.{Certificate, IsCertificate, answer_of}
 use Rattle.am_cert.specs.Grammar.{answer, shape_of, version, version_word}
 use Rattle.am_cert.specs.Versions.{has_hints}
@@ -66,31 +65,38 @@ certificate_words c =
     ((answer (has_hints c.version) (shape_of (named c.problem))).spell (answer_of c) ++ codes "end" ∷ [])))
 
 -- the text is this certificate's
-pub record Reads (text : List ℕ) (c : Certificate) : Type 0 where
+pub record ReadsAsCertificate (text : List ℕ) (c : Certificate) : Type 0 where
   pub allowed : bad_byte text ≡ None
   pub spelled : words_of text ≡ certificate_words c
   pub limits : IsCertificate c
 
--- the draft of a text, unless a byte is refused
-abbrev pub drafted : List ℕ → Option ℕ → Result Draft Refusal
-drafted text (Some place) = Err (BadByte place)
-drafted text None = whole (draft (text_left text))
-
 -- the draft of a text, or the first refusal of its bytes and tokens
 abbrev pub draft_of : List ℕ → Result Draft Refusal
-draft_of text = drafted text (bad_byte text)
+draft_of text = read_whole draft text
 
 -- the certificate of a draft, unless there is a refusal
-abbrev pub all_settled : Result Draft Refusal → Result Certificate Refusal
-all_settled (Ok d) = settled d
-all_settled (Err r) = Err r
+abbrev pub settled_certificate_of : Result Draft Refusal → Result Certificate Refusal
+settled_certificate_of (Ok d) = settled d
+settled_certificate_of (Err r) = Err r
 
 -- the certificate of a text, or its first refusal
 abbrev pub certificate_of : List ℕ → Result Certificate Refusal
-certificate_of text = all_settled (draft_of text)
+certificate_of text = settled_certificate_of (draft_of text)
+
+-- the text is some certificate's
+abbrev pub IsCertificateText : List ℕ → Type 0
+IsCertificateText text = (c : Certificate) × ReadsAsCertificate text c
+
+-- a token that is refused in a certificate's place is refused whatever follows it
+abbrev pub CertificatesAreRefusedForGood : Type 0
+CertificatesAreRefusedForGood = RefusesForGood draft IsCertificateText
+
+-- a text is one certificate's at most
+abbrev pub IsOneCertificate : List ℕ → Type 0
+IsOneCertificate text = (c d : Certificate) → ReadsAsCertificate text c → ReadsAsCertificate text d → c ≡ d
 
 -- a text is some certificate's and has no refusal, or it is none's and has one
 abbrev pub IsSettledCertificate : List ℕ → Type 0
 IsSettledCertificate text =
-    ((c : Certificate) × Reads text c × ((r : Refusal) → certificate_of text ≡ Err r → ⊥)) ⊎
-    ((r : Refusal) × (certificate_of text ≡ Err r) × ((c : Certificate) → Reads text c → ⊥))
+    ((c : Certificate) × ReadsAsCertificate text c × ((r : Refusal) → certificate_of text ≡ Err r → ⊥)) ⊎
+    ((r : Refusal) × (certificate_of text ≡ Err r) × ((c : Certificate) → ReadsAsCertificate text c → ⊥))

@@ -3,8 +3,8 @@
 ghost use Rattle.std.proofs.Common.{inl, inr};
 ghost use Rattle.am_syntax.specs.Readers.{Makes};
 ghost use Rattle.std.specs.Prelude.{false};
-ghost use Rattle.am_cert.specs.Grammar.{answer, best, none, outcome, outcome_of, spent_conflicts, spent_turns};
-ghost use Rattle.am_cert.specs.inside.Shapes.{IsShape, seen_shape};
+ghost use Rattle.am_cert.specs.Grammar.{answer, best, none, outcome, outcome_of_parts, spent_conflicts, spent_turns};
+ghost use Rattle.am_cert.specs.inside.Shapes.{IsProblemShape, seen_shape};
 ghost use Rattle.am_cert.specs.inside.Shown.{read_as, term_lines};
 
 use crate::answer::{Answer, Proofs};
@@ -31,7 +31,7 @@ impl<'a> Item<'a> for TermLines {
     ghost use Rattle.am_bv.specs.declared.term.Term.{Term as Tree};
     ghost use Rattle.am_syntax.specs.Pieces.{keyed};
     ghost use Rattle.am_cert.specs.Grammar.{result_term};
-    ghost use Rattle.am_cert.specs.inside.Shapes.{IsShape, seen_shape};
+    ghost use Rattle.am_cert.specs.inside.Shapes.{IsProblemShape, seen_shape};
 
     type Value = Term;
 
@@ -41,7 +41,7 @@ impl<'a> Item<'a> for TermLines {
 
     ghost reads = { λ own _. (keyed (codes "term") (result_term (seen_shape own.shape))).read };
 
-    ghost can = { λ own. IsShape (seen_shape own.shape) };
+    ghost can = { λ own. IsProblemShape (seen_shape own.shape) };
 
     fn read(&self, alloc: Global, text: &mut Cursor<'a>, _seen: &[Term]) -> Result<Term, Failure> {
         take_key(text, b"term")?;
@@ -55,7 +55,7 @@ pub(crate) fn read_term_lines(
     text: &mut Cursor<'_>,
     s: &Shape,
 ) -> Result<Transformer, Failure>
-    requires { IsShape (seen_shape s.now) }
+    requires { IsProblemShape (seen_shape s.now) }
     ensures { Makes (λ ts. ts) result text.old text.new (term_lines (seen_shape s.now)).read }
 {
     read_times(alloc, text, &TermLines { shape: *s }, s.fields)
@@ -64,9 +64,9 @@ pub(crate) fn read_term_lines(
 /// `best`: a transformer, turns and two logs.
 #[tactic(auto, unfolding(crate::specs::Grammar::best))]
 fn read_best(alloc: Global, text: &mut Cursor<'_>, s: &Shape) -> Result<Outcome, Failure>
-    requires { IsShape (seen_shape s.now) }
+    requires { IsProblemShape (seen_shape s.now) }
     ensures { let best = best (seen_shape s.now) in
-        Makes (λ o. o) result text.old text.new (read_as (λ x. outcome_of (inl x)) best) }
+        Makes (λ o. o) result text.old text.new (read_as (λ x. outcome_of_parts (inl x)) best) }
 {
     take_key(text, b"best")?;
     let term = read_term_lines(alloc, text, s)?;
@@ -84,9 +84,9 @@ fn read_best(alloc: Global, text: &mut Cursor<'_>, s: &Shape) -> Result<Outcome,
 /// `none`: turns and a log.
 #[tactic(auto, unfolding(crate::specs::Grammar::none))]
 fn read_none(alloc: Global, text: &mut Cursor<'_>, s: &Shape) -> Result<Outcome, Failure>
-    requires { IsShape (seen_shape s.now) }
+    requires { IsProblemShape (seen_shape s.now) }
     ensures { let none = none (seen_shape s.now) in
-        Makes (λ o. o) result text.old text.new (read_as (λ x. outcome_of (inr (inl x))) none) }
+        Makes (λ o. o) result text.old text.new (read_as (λ x. outcome_of_parts (inr (inl x))) none) }
 {
     take_key(text, b"none")?;
     let trace = read_turns(alloc, text, s, s.turns)?;
@@ -97,9 +97,9 @@ fn read_none(alloc: Global, text: &mut Cursor<'_>, s: &Shape) -> Result<Outcome,
 /// `turns`: turns, of which there may be one more.
 #[tactic(auto, unfolding(crate::specs::Grammar::spent_turns))]
 fn read_spent_turns(alloc: Global, text: &mut Cursor<'_>, s: &Shape) -> Result<Outcome, Failure>
-    requires { IsShape (seen_shape s.now) }
+    requires { IsProblemShape (seen_shape s.now) }
     ensures { let spent = spent_turns (seen_shape s.now) in
-        Makes (λ o. o) result text.old text.new (read_as (λ x. outcome_of (inr (inr (inl x)))) spent) }
+        Makes (λ o. o) result text.old text.new (read_as (λ x. outcome_of_parts (inr (inr (inl x)))) spent) }
 {
     take_key(text, b"turns")?;
     let trace = read_turns(alloc, text, s, s.turns + 1)?;
@@ -109,9 +109,9 @@ fn read_spent_turns(alloc: Global, text: &mut Cursor<'_>, s: &Shape) -> Result<O
 /// `conflicts`: turns, what was asked after them, and a log.
 #[tactic(auto, unfolding(crate::specs::Grammar::spent_conflicts))]
 fn read_spent_conflicts(alloc: Global, text: &mut Cursor<'_>, s: &Shape) -> Result<Outcome, Failure>
-    requires { IsShape (seen_shape s.now) }
+    requires { IsProblemShape (seen_shape s.now) }
     ensures { let spent = spent_conflicts (seen_shape s.now) in
-        Makes (λ o. o) result text.old text.new (read_as (λ x. outcome_of (inr (inr (inr x)))) spent) }
+        Makes (λ o. o) result text.old text.new (read_as (λ x. outcome_of_parts (inr (inr (inr x)))) spent) }
 {
     take_key(text, b"conflicts")?;
     let trace = read_turns(alloc, text, s, s.turns)?;
@@ -123,7 +123,7 @@ fn read_spent_conflicts(alloc: Global, text: &mut Cursor<'_>, s: &Shape) -> Resu
 /// How a synthesis ended.
 #[tactic(auto, unfolding(crate::specs::Grammar::outcome))]
 fn read_outcome(alloc: Global, text: &mut Cursor<'_>, s: &Shape) -> Result<Outcome, Failure>
-    requires { IsShape (seen_shape s.now) }
+    requires { IsProblemShape (seen_shape s.now) }
     ensures { Makes (λ o. o) result text.old text.new (outcome (seen_shape s.now)).read }
 {
     if is_next(text, b"best") {
@@ -144,7 +144,7 @@ pub(crate) fn read_chained(
     text: &mut Cursor<'_>,
     s: &Shape,
 ) -> Result<Answer, Failure>
-    requires { IsShape (seen_shape s.now) }
+    requires { IsProblemShape (seen_shape s.now) }
     ensures { Makes (λ a. a) result text.old text.new (answer false (seen_shape s.now)).read }
 {
     let outcome = read_outcome(alloc, text, s)?;

@@ -5,7 +5,7 @@ ghost use Rattle.std.proofs.Common.{inl, inr};
 ghost use Rattle.am_syntax.specs.Pieces.{keyed};
 ghost use Rattle.am_syntax.specs.Readers.{Makes};
 ghost use Rattle.am_cert.specs.Grammar.{asked, asked_of, example, negative_count, terms};
-ghost use Rattle.am_cert.specs.inside.Shapes.{IsShape, seen_shape};
+ghost use Rattle.am_cert.specs.inside.Shapes.{IsProblemShape, seen_shape};
 ghost use Rattle.am_cert.specs.inside.Shown.{question, read_as};
 
 use crate::rows::read_terms;
@@ -23,7 +23,7 @@ fn read_keep(
     s: &Shape,
     trace: &[Turn],
 ) -> Result<Asked, Failure>
-    requires { IsShape (seen_shape s.now) }
+    requires { IsProblemShape (seen_shape s.now) }
     ensures { let keep = keyed (codes "keep") (example (seen_shape s.now) (negative_count trace.now)) in
         Makes (λ a. a) result text.old text.new (read_as (λ x. asked_of (inr (inl x))) keep) }
 {
@@ -42,7 +42,7 @@ fn read_keep(
 
 /// `sound` and a transformer.
 fn read_sound(alloc: Global, text: &mut Cursor<'_>, s: &Shape) -> Result<Asked, Failure>
-    requires { IsShape (seen_shape s.now) }
+    requires { IsProblemShape (seen_shape s.now) }
     ensures { let sound = keyed (codes "sound") (terms (seen_shape s.now)) in
         Makes (λ a. a) result text.old text.new (read_as (λ x. asked_of (inr (inr (inl x)))) sound) }
 {
@@ -53,7 +53,7 @@ fn read_sound(alloc: Global, text: &mut Cursor<'_>, s: &Shape) -> Result<Asked, 
 
 /// `precise` and a transformer.
 fn read_precise(alloc: Global, text: &mut Cursor<'_>, s: &Shape) -> Result<Asked, Failure>
-    requires { IsShape (seen_shape s.now) }
+    requires { IsProblemShape (seen_shape s.now) }
     ensures { let precise = keyed (codes "precise") (terms (seen_shape s.now)) in
         Makes (λ a. a) result text.old text.new (read_as (λ x. asked_of (inr (inr (inr x)))) precise) }
 {
@@ -69,7 +69,7 @@ fn read_question(
     s: &Shape,
     trace: &[Turn],
 ) -> Result<Asked, Failure>
-    requires { IsShape (seen_shape s.now) }
+    requires { IsProblemShape (seen_shape s.now) }
     ensures { let question = question (seen_shape s.now) trace.now in
         Makes (λ a. a) result text.old text.new (read_as asked_of question) }
 {
@@ -93,7 +93,7 @@ pub(crate) fn read_asked(
     s: &Shape,
     trace: &[Turn],
 ) -> Result<Asked, Failure>
-    requires { IsShape (seen_shape s.now) }
+    requires { IsProblemShape (seen_shape s.now) }
     ensures { Makes (λ a. a) result text.old text.new (asked (seen_shape s.now) trace.now).read }
 {
     take_key(text, b"query")?;

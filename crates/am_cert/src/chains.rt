@@ -1,26 +1,25 @@
 //! Chains and logs.
 
 ghost use Rattle.std.specs.Prelude.{◌≡◌, codes};
-ghost use Rattle.am_syntax.specs.Pieces.{next_is, repeat};
-ghost use Rattle.am_syntax.specs.Readers.{Gives, Makes};
-ghost use Rattle.am_cert.specs.Grammar.{chain, code, is_number_next, log, step};
+ghost use Rattle.am_syntax.specs.Pieces.{is_number_next, next_is, repeat};
+ghost use Rattle.am_syntax.specs.Readers.{GivesRead, Makes};
+ghost use Rattle.am_cert.specs.Grammar.{chain, code, log, step};
 
-use crate::rows::is_number_next;
 use am_chain::{Chain, Log, Step, Steps};
-use am_syntax::{Cause, Failure, is_next, take_key, take_number};
+use am_syntax::{Cause, Failure, is_next, is_number_next, take_key, take_number};
 use am_text::Cursor;
 use std::alloc::Global;
 
 /// The number of a variable or of a clause, or the code of a literal.
 pub(crate) fn take_code(text: &mut Cursor<'_>) -> Result<u32, Cause>
-    ensures { Gives (λ n. n) result text.old text.new code.read }
+    ensures { GivesRead (λ n. n) result text.old text.new code.read }
 {
     Ok(take_number(text, 0, u64::from(u32::MAX))? as u32)
 }
 
 /// A variable and a clause.
 fn read_step(text: &mut Cursor<'_>) -> Result<Step, Cause>
-    ensures { Gives (λ x. x) result text.old text.new step.read }
+    ensures { GivesRead (λ x. x) result text.old text.new step.read }
 {
     let variable = take_code(text)?;
     let clause = take_code(text)?;

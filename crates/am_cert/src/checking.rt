@@ -1,10 +1,12 @@
 //! Whether a certificate is accepted.
 
-ghost use Rattle.std.specs.Prelude.{IfErr, OnOk, []};
+ghost use Rattle.std.specs.Prelude.{◌≡◌, Err, IfErr, OnOk, []};
 ghost use Rattle.am_query.specs.AcceptanceLaws.{IsRight};
 ghost use Rattle.am_query.specs.declared.outcome.Outcome.TheVariants.{Absent, Best};
 ghost use Rattle.am_cert.specs.Certificate.{IsBounded};
-ghost use Rattle.am_cert.specs.Checking.{IsAcceptable, IsFailureOf, acceptance_of};
+ghost use Rattle.am_query.specs.declared.fault.Fault.TheVariants.{Unfinished};
+ghost use Rattle.am_cert.specs.Checking.{IsAcceptable, IsFailureOf, IsUnfinished, acceptance_of};
+ghost use Rattle.am_cert.specs.declared.checking.CheckFail.TheVariants.{Rejected};
 ghost use Rattle.am_cert.specs.inside.Verdicts.{AreCounted, AreStoredAfter, IsVerdictOf, acceptance_but};
 
 use crate::certificate::Certificate;
@@ -44,11 +46,13 @@ impl From<AllocError> for CheckFail {
 ///
 /// # Errors
 ///
-/// `Rejected`: a condition of acceptance doesn't hold, with the first fault; `NoMemory`.
+/// `Rejected`: a condition of acceptance doesn't hold, with the first fault; `NoMemory`, but not for an outcome whose
+/// turns or conflicts are spent, which is `Unfinished`.
 pub fn check(alloc: Global, c: &Certificate) -> Result<(), CheckFail>
     ensures accepted { OnOk result (IsAcceptable c.now) }
     ensures right { OnOk result (IsRight c.now.problem c.now.outcome) }
     ensures rejected { IfErr result (IsFailureOf c.now) }
+    ensures unfinished { IsUnfinished c.now.outcome → result ≡ Err (Rejected Unfinished) }
 {
     c.keeps_limits();
     verdict(alloc, c)
@@ -56,7 +60,8 @@ pub fn check(alloc: Global, c: &Certificate) -> Result<(), CheckFail>
 
 /// The verdict of acceptance.
 fn verdict(alloc: Global, c: &Certificate) -> Result<(), CheckFail>
-    ensures { IsVerdictOf (acceptance_of c.now) result }
+    ensures verdict { IsVerdictOf (acceptance_of c.now) result }
+    ensures unfinished { IsUnfinished c.now.outcome → result ≡ Err (Rejected Unfinished) }
 {
     c.keeps_limits();
     match c.outcome() {

@@ -1,7 +1,7 @@
 //! A certificate that comes in pieces.
 
 ghost use Rattle.std.specs.Prelude.{◌≡◌, ◌++◌, ◌<◌, ◌≤◌, ◌↔◌, ℕ, List, [], Err, IsErr, IsTrue, OnOk, length};
-ghost use Rattle.am_text.specs.Gathered.{Holds};
+ghost use Rattle.am_text.specs.Gathered.{HoldsStream};
 ghost use Rattle.am_syntax.specs.declared.refusal.Refusal.TheVariants.{Long};
 ghost use Rattle.am_cert.specs.Checking.{AcceptedTextsPass, IsVerdict};
 
@@ -76,7 +76,7 @@ impl From<CheckFail> for FeedEnd {
 impl Feed {
     /// A stream without pieces.
     pub fn new(alloc: Global) -> Feed
-        ensures { Holds result [] }
+        ensures { HoldsStream result [] }
     {
         Feed {
             stream: Gather::new(alloc, MOST_BYTES),
@@ -90,7 +90,7 @@ impl Feed {
     /// There was no memory for this piece, or for an earlier one.
     pub fn push(&mut self, piece: &[u8]) -> Result<(), AllocError>
         ensures holds { OnOk result ((stream : List ℕ) →
-            Holds self.old stream → Holds self.new (stream ++ piece.now)) }
+            HoldsStream self.old stream → HoldsStream self.new (stream ++ piece.now)) }
         ensures refused { IsErr result ↔ IsTrue self.new.refused }
         ensures stays { IsTrue self.old.refused → IsTrue self.new.refused }
     {
@@ -107,8 +107,8 @@ impl Feed {
     /// - `Rejected`: the certificate isn't accepted, with its first fault.
     /// - `NoMemory`: there was no memory, now or for a piece.
     pub fn end(self, alloc: Global) -> Result<(), FeedEnd>
-        ensures verdict { (stream : List ℕ) → Holds self stream → IsVerdict stream result }
-        ensures long { (stream : List ℕ) → Holds self stream → MOST_BYTES < length stream →
+        ensures verdict { (stream : List ℕ) → HoldsStream self stream → IsVerdict stream result }
+        ensures long { (stream : List ℕ) → HoldsStream self stream → MOST_BYTES < length stream →
             result ≡ Err (FeedEnd.Refused Long) }
         ensures refused { IsTrue self.refused → result ≡ Err FeedEnd.NoMemory }
     {

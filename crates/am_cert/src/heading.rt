@@ -2,7 +2,7 @@
 
 ghost use Rattle.std.specs.Prelude.{codes};
 ghost use Rattle.am_syntax.specs.Pieces.{keyed};
-ghost use Rattle.am_syntax.specs.Readers.{Gives};
+ghost use Rattle.am_syntax.specs.Readers.{GivesRead};
 ghost use Rattle.am_cert.specs.Grammar.{version};
 
 use crate::version::Version;
@@ -47,14 +47,14 @@ impl<'a> Judge<'a> for VersionWord {
 /// Takes the number of a version.
 #[tactic(auto, unfolding(crate::specs::Grammar::version))]
 fn take_version(text: &mut Cursor<'_>) -> Result<Version, Cause>
-    ensures { Gives (λ v. v) result text.old text.new version.read }
+    ensures { GivesRead (λ v. v) result text.old text.new version.read }
 {
     take(text, &VersionWord)
 }
 
 /// `certificate` and its version.
 pub(crate) fn read_version(text: &mut Cursor<'_>) -> Result<Version, Cause>
-    ensures { Gives (λ v. v) result text.old text.new (keyed (codes "certificate") version).read }
+    ensures { GivesRead (λ v. v) result text.old text.new (keyed (codes "certificate") version).read }
 {
     take_key(text, b"certificate")?;
     take_version(text)

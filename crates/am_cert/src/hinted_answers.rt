@@ -5,7 +5,7 @@ ghost use Rattle.std.proofs.Common.{inl, inr};
 ghost use Rattle.am_syntax.specs.Pieces.{choice, next_is};
 ghost use Rattle.am_syntax.specs.Readers.{Makes};
 ghost use Rattle.am_cert.specs.Grammar.{answer, hinted_best, hinted_none, hinted_of};
-ghost use Rattle.am_cert.specs.inside.Shapes.{IsShape, seen_shape};
+ghost use Rattle.am_cert.specs.inside.Shapes.{IsProblemShape, seen_shape};
 ghost use Rattle.am_cert.specs.inside.Shown.{read_as};
 
 use crate::answer::{Answer, Proofs};
@@ -23,7 +23,7 @@ use std::alloc::Global;
 /// `best`: a transformer, turns and two lists of hints.
 #[tactic(auto, unfolding(crate::specs::Grammar::hinted_best))]
 fn read_hinted_best(alloc: Global, text: &mut Cursor<'_>, s: &Shape) -> Result<Answer, Failure>
-    requires { IsShape (seen_shape s.now) }
+    requires { IsProblemShape (seen_shape s.now) }
     ensures { let best = hinted_best (seen_shape s.now) in
         Makes (λ a. a) result text.old text.new (read_as (λ x. hinted_of (inl x)) best) }
 {
@@ -46,7 +46,7 @@ fn read_hinted_best(alloc: Global, text: &mut Cursor<'_>, s: &Shape) -> Result<A
 /// `none`: turns and a list of hints.
 #[tactic(auto, unfolding(crate::specs::Grammar::hinted_none))]
 fn read_hinted_none(alloc: Global, text: &mut Cursor<'_>, s: &Shape) -> Result<Answer, Failure>
-    requires { IsShape (seen_shape s.now) }
+    requires { IsProblemShape (seen_shape s.now) }
     ensures { let none = hinted_none (seen_shape s.now) in
         Makes (λ a. a) result text.old text.new (read_as (λ x. hinted_of (inr x)) none) }
 {
@@ -68,7 +68,7 @@ fn read_hinted_none(alloc: Global, text: &mut Cursor<'_>, s: &Shape) -> Result<A
 /// How a synthesis ended, with the hints that show it.
 #[tactic(auto, unfolding(crate::specs::Grammar::answer))]
 fn read_hinted(alloc: Global, text: &mut Cursor<'_>, s: &Shape) -> Result<Answer, Failure>
-    requires { IsShape (seen_shape s.now) }
+    requires { IsProblemShape (seen_shape s.now) }
     ensures { Makes (λ a. a) result text.old text.new (answer true (seen_shape s.now)).read }
 {
     if is_next(text, b"best") {
@@ -85,7 +85,7 @@ pub(crate) fn read_by(
     s: &Shape,
     hints: bool,
 ) -> Result<Answer, Failure>
-    requires { IsShape (seen_shape s.now) }
+    requires { IsProblemShape (seen_shape s.now) }
     ensures { Makes (λ a. a) result text.old text.new (answer hints (seen_shape s.now)).read }
 {
     if hints {

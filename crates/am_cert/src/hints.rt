@@ -6,9 +6,8 @@ ghost use Rattle.am_syntax.specs.Readers.{Makes};
 ghost use Rattle.am_cert.specs.Grammar.{hint, hints, numbers};
 
 use crate::chains::take_code;
-use crate::rows::is_number_next;
 use am_hint::{Codes, Hint, Hints, Places};
-use am_syntax::{Failure, is_next, take_key};
+use am_syntax::{Failure, is_next, is_number_next, take_key};
 use am_text::Cursor;
 use std::alloc::Global;
 

@@ -58,5 +58,8 @@ pub use draft::CertificateDraft;
 pub use feed::{Feed, FeedEnd, accepted_texts_pass};
 pub use limits::{MOST_BYTES, MOST_NESTING, MOST_TERM_NODES};
 pub use printing::{canonical_certificates_are_read, outcomes_can_be_written, print_certificate};
-pub use reading::{certificate_at, certificate_texts_are_settled, read_certificate};
+pub use reading::{
+    certificate_at, certificate_refusals_are_for_good, certificate_texts_are_settled,
+    read_certificate, texts_have_one_certificate,
+};
 pub use version::Version;

@@ -1,17 +1,17 @@
 //! The whole text of a certificate.
 
-ghost use Rattle.std.specs.Prelude.{◌≡◌, ◌<◌, ◌^◌, ℕ, List, Err, IfErr, IfOk, None, Ok, length};
+ghost use Rattle.std.specs.Prelude.{◌≡◌, ◌<◌, ◌^◌, ℕ, List, Err, IfErr, IfOk, Ok, length};
 ghost use Rattle.am_problem.specs.StoredDraft.{seen_draft as seen_problem};
 ghost use Rattle.am_problem.specs.Texts.{IfRefused};
-ghost use Rattle.am_text.specs.Tokens.{bad_byte, text_left};
 ghost use Rattle.am_syntax.specs.Readers.{Makes};
 ghost use Rattle.am_syntax.specs.declared.refusal.Failure.TheVariants.{NoMemory};
 ghost use Rattle.am_syntax.specs.Texts.{Answers, MakesAt};
 ghost use Rattle.am_cert.specs.Certificate.{Certificate as Data};
 ghost use Rattle.am_cert.specs.Grammar.{shape_of};
 ghost use Rattle.am_cert.specs.StoredDraft.{seen_draft};
-ghost use Rattle.am_cert.specs.inside.Shapes.{IsShape};
-ghost use Rattle.am_cert.specs.Texts.{IsSettledCertificate, IsShort, Reads, answered, certificate_of, draft, draft_of};
+ghost use Rattle.am_cert.specs.inside.Shapes.{IsProblemShape};
+ghost use Rattle.am_cert.specs.Texts.{CertificatesAreRefusedForGood, IsOneCertificate, IsSettledCertificate};
+ghost use Rattle.am_cert.specs.Texts.{IsShort, ReadsAsCertificate, answered, certificate_of, draft, draft_of};
 
 use crate::answer::Answer;
 use crate::certificate::Certificate;
@@ -33,7 +33,7 @@ fn read_answer(
     version: Version,
     problem: &Draft<'_>,
 ) -> Result<Answer, Failure>
-    requires { IsShape (shape_of (seen_problem problem.now).lines) }
+    requires { IsProblemShape (shape_of (seen_problem problem.now).lines) }
     ensures { Makes (λ a. a) result text.old text.new (answered version (seen_problem problem.now)) }
 {
     let shape = Shape {
@@ -94,28 +94,15 @@ pub fn certificate_at<'a>(
     placed(read, &*c)
 }
 
-/// Reads all of a text from its beginning.
-fn read_to_end<'a>(
-    alloc: Global,
-    text: &'a [u8],
-    mut cursor: Cursor<'a>,
-) -> Result<CertificateDraft<'a>, ReadError>
-    requires short { length text.now < 2 ^ 32 }
-    requires allowed { bad_byte text.now ≡ None }
-    requires whole { cursor ≡ text_left text.now }
-    ensures { Answers seen_draft result (draft_of text.now) }
-{
-    let read = take_certificate(alloc, &mut cursor);
-    close(read, &cursor)
-}
-
 /// Reads all of a text, before the names of its problem are numbered.
+#[tactic(auto, unfolding(am_syntax::specs::Texts::read_whole))]
 fn read_text<'a>(alloc: Global, text: &'a [u8]) -> Result<CertificateDraft<'a>, ReadError>
     requires { length text.now < 2 ^ 32 }
     ensures { Answers seen_draft result (draft_of text.now) }
 {
-    let cursor = open(text)?;
-    read_to_end(alloc, text, cursor)
+    let mut cursor = open(text)?;
+    let read = take_certificate(alloc, &mut cursor);
+    close(read, &cursor)
 }
 
 /// Reads all of a text.
@@ -134,9 +121,9 @@ fn read_all(alloc: Global, text: &[u8]) -> Result<Certificate, ReadError>
 pub fn read_certificate(alloc: Global, text: &[u8]) -> Result<Certificate, ReadError>
     requires { length text.now < 2 ^ 32 }
     // What is read is the text's certificate.
-    ensures found { IfOk result (λ c. Reads text.now c) }
+    ensures found { IfOk result (λ c. ReadsAsCertificate text.now c) }
     // What is some certificate's text is read, unless memory runs out.
-    ensures only { (c : Data) → Reads text.now c → Answers (λ k. k) result (Ok c) }
+    ensures only { (c : Data) → ReadsAsCertificate text.now c → Answers (λ k. k) result (Ok c) }
     // Where nothing is read, the refusal is the first.
     ensures first { IfErr result (λ e. IfRefused e (λ r. certificate_of text.now ≡ Err r)) }
 {
@@ -146,4 +133,14 @@ pub fn read_certificate(alloc: Global, text: &[u8]) -> Result<Certificate, ReadE
 /// Each text of fewer than 2^32 bytes is a certificate's or has a first refusal, and not both.
 pub fn certificate_texts_are_settled()
     ensures { (text : List ℕ) → length text < 2 ^ 32 → IsSettledCertificate text }
+{}
+
+/// No certificate's text begins with the words of a refused one up to and including the refused token.
+pub fn certificate_refusals_are_for_good()
+    ensures { CertificatesAreRefusedForGood }
+{}
+
+/// A text is one certificate's at most.
+pub fn texts_have_one_certificate()
+    ensures { (text : List ℕ) → IsOneCertificate text }
 {}

@@ -2,7 +2,7 @@
 
 ghost use Rattle.std.specs.Prelude.{◌≡◌, ◌<◌, ◌^◌, [], IfOk, length};
 ghost use Rattle.am_query.specs.Acceptance.{hints_refute, refuted};
-ghost use Rattle.am_query.specs.Formulas.{circuit_of};
+ghost use Rattle.am_query.specs.Formulas.{query_circuit};
 ghost use Rattle.am_query.specs.Queries.{AreCompared, AreFitted, IsQueryOf};
 ghost use Rattle.am_query.specs.Transformers.{IsTransformerOf};
 ghost use Rattle.am_query.specs.declared.query.Query.TheVariants.{Fit, Precise, Sound};
@@ -30,7 +30,7 @@ pub fn unsound_refuted(
 ) -> Result<(), CheckFail>
     requires transformer { IsTransformerOf c.now.problem terms.now }
     requires bounded { IsBounded log.now }
-    ensures { let net = circuit_of (folds c.now.version) c.now.problem (Sound terms.now) in
+    ensures { let net = query_circuit (folds c.now.version) c.now.problem (Sound terms.now) in
         IsVerdictOf (first_refuted c.now.proofs log.now net.vars net.clauses) result }
 {
     let formula = unsound_formula(alloc, c, terms)?;
@@ -48,7 +48,7 @@ pub fn closer_refuted(
 ) -> Result<(), CheckFail>
     requires compared { AreCompared c.now.problem terms.now examples.positives examples.negatives }
     requires bounded { IsBounded log.now }
-    ensures { let net = circuit_of (folds c.now.version) c.now.problem
+    ensures { let net = query_circuit (folds c.now.version) c.now.problem
         (Precise terms.now examples.positives examples.negatives) in
         IsVerdictOf (second_refuted c.now.proofs log.now net.vars net.clauses) result }
 {
@@ -65,7 +65,7 @@ pub fn fit_refuted(
 ) -> Result<(), CheckFail>
     requires fitted { AreFitted c.now.problem pos [] }
     requires bounded { IsBounded log.now }
-    ensures { let net = circuit_of (folds c.now.version) c.now.problem (Fit pos []) in
+    ensures { let net = query_circuit (folds c.now.version) c.now.problem (Fit pos []) in
         IsVerdictOf (first_refuted c.now.proofs log.now net.vars net.clauses) result }
 {
     let formula = fit_formula(alloc, c, pos)?;

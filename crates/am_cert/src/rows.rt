@@ -1,11 +1,10 @@
 //! Rows of terms, of words and of places.
 
 ghost use Rattle.std.specs.Prelude.{◌≡◌, ◌≤◌, ◌^◌, ◌-◌};
-ghost use Rattle.am_text.specs.Tokens.{words as left_words};
 ghost use Rattle.am_syntax.specs.Pieces.{number};
-ghost use Rattle.am_syntax.specs.Readers.{Gives, Makes};
-ghost use Rattle.am_cert.specs.Grammar.{is_number_next, place_behind, places, result_term, terms, words};
-ghost use Rattle.am_cert.specs.inside.Shapes.{IsShape, seen_shape};
+ghost use Rattle.am_syntax.specs.Readers.{GivesRead, Makes};
+ghost use Rattle.am_cert.specs.Grammar.{place_after, places, result_term, terms, words};
+ghost use Rattle.am_cert.specs.inside.Shapes.{IsProblemShape, seen_shape};
 
 use crate::limits::{MOST_NESTING, MOST_TERM_NODES};
 use crate::shape::Shape;
@@ -13,8 +12,8 @@ use am_bv::{Term, Width};
 use am_problem::{ShortRow, Transformer};
 use am_query::Places;
 use am_syntax::{
-    Cause, Failure, Item, Letter, Listed, TermLimits, is_digits, read_list, read_times, take_below,
-    take_number, take_term,
+    Cause, Failure, Item, Letter, Listed, TermLimits, is_number_next, read_list, read_times,
+    take_below, take_number, take_term,
 };
 use am_text::Cursor;
 use std::alloc::Global;
@@ -25,7 +24,7 @@ pub(crate) fn read_result_term(
     text: &mut Cursor<'_>,
     s: &Shape,
 ) -> Result<Term, Failure>
-    requires { IsShape (seen_shape s.now) }
+    requires { IsProblemShape (seen_shape s.now) }
     ensures { Makes (λ t. t) result text.old text.new (result_term (seen_shape s.now)).read }
 {
     let limits = TermLimits {
@@ -46,7 +45,7 @@ struct Terms {
 impl<'a> Item<'a> for Terms {
     ghost use Rattle.am_bv.specs.declared.term.Term.{Term as Tree};
     ghost use Rattle.am_cert.specs.Grammar.{result_term};
-    ghost use Rattle.am_cert.specs.inside.Shapes.{IsShape, seen_shape};
+    ghost use Rattle.am_cert.specs.inside.Shapes.{IsProblemShape, seen_shape};
 
     type Value = Term;
 
@@ -56,7 +55,7 @@ impl<'a> Item<'a> for Terms {
 
     ghost reads = { λ own _. (result_term (seen_shape own.shape)).read };
 
-    ghost can = { λ own. IsShape (seen_shape own.shape) };
+    ghost can = { λ own. IsProblemShape (seen_shape own.shape) };
 
     fn read(&self, alloc: Global, text: &mut Cursor<'a>, _seen: &[Term]) -> Result<Term, Failure> {
         read_result_term(alloc, text, &self.shape)
@@ -69,7 +68,7 @@ pub(crate) fn read_terms(
     text: &mut Cursor<'_>,
     s: &Shape,
 ) -> Result<Transformer, Failure>
-    requires { IsShape (seen_shape s.now) }
+    requires { IsProblemShape (seen_shape s.now) }
     ensures { Makes (λ ts. ts) result text.old text.new (terms (seen_shape s.now)).read }
 {
     read_times(alloc, text, &Terms { shape: *s }, s.fields)
@@ -77,7 +76,7 @@ pub(crate) fn read_terms(
 
 /// A word.
 pub(crate) fn read_word(text: &mut Cursor<'_>, w: Width) -> Result<u8, Cause>
-    ensures { Gives (λ n. n) result text.old text.new (number 0 (2 ^ w - 1)).read }
+    ensures { GivesRead (λ n. n) result text.old text.new (number 0 (2 ^ w - 1)).read }
 {
     Ok(take_number(text, 0, u64::from(w.mask()))? as u8)
 }
@@ -89,7 +88,7 @@ pub(crate) fn read_words<const N: usize>(
     count: u32,
 ) -> Result<ShortRow<N>, Cause>
     requires { count ≤ N }
-    ensures { Gives (λ row. row) result text.old text.new (words (seen_shape s.now) count).read }
+    ensures { GivesRead (λ row. row) result text.old text.new (words (seen_shape s.now) count).read }
 {
     let mut row = ShortRow::new();
     'words: for _ in 0..count {
@@ -98,19 +97,9 @@ pub(crate) fn read_words<const N: usize>(
     Ok(row)
 }
 
-/// Whether a row of digits comes.
-pub(crate) fn is_number_next(text: &Cursor<'_>) -> bool
-    ensures { result ≡ is_number_next (left_words text.now) }
-{
-    match text.peek() {
-        Some(token) => is_digits(token.text),
-        None => false,
-    }
-}
-
 /// The least place after others.
-fn place_behind(seen: &[u32]) -> u64
-    ensures { result ≡ place_behind seen.now }
+fn place_after(seen: &[u32]) -> u64
+    ensures { result ≡ place_after seen.now }
 {
     match seen.last() {
         Some(place) => u64::from(*place) + 1,
@@ -127,7 +116,7 @@ struct RisingPlaces {
 impl<'a> Item<'a> for RisingPlaces {
     ghost use Rattle.std.specs.Prelude.{ℕ, ◌≤◌, ◌^◌};
     ghost use Rattle.am_syntax.specs.Pieces.{below};
-    ghost use Rattle.am_cert.specs.Grammar.{place_behind};
+    ghost use Rattle.am_cert.specs.Grammar.{place_after};
 
     type Value = u32;
 
@@ -135,17 +124,17 @@ impl<'a> Item<'a> for RisingPlaces {
 
     ghost view = { λ n. n };
 
-    ghost reads = { λ own seen. (below (place_behind seen) own.count).read };
+    ghost reads = { λ own seen. (below (place_after seen) own.count).read };
 
     ghost can = { λ own. own.count ≤ 2 ^ 32 };
 
     fn read(&self, _alloc: Global, text: &mut Cursor<'a>, seen: &[u32]) -> Result<u32, Failure> {
-        Ok(take_below(text, place_behind(seen), self.count)? as u32)
+        Ok(take_below(text, place_after(seen), self.count)? as u32)
     }
 }
 
 impl<'a> Listed<'a> for RisingPlaces {
-    ghost use Rattle.am_cert.specs.Grammar.{is_number_next};
+    ghost use Rattle.am_syntax.specs.Pieces.{is_number_next};
 
     ghost goes = { is_number_next };
 

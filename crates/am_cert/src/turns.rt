@@ -3,9 +3,9 @@
 ghost use Rattle.std.specs.Prelude.{◌≡◌, ◌<◌, ◌^◌, codes, length};
 ghost use Rattle.std.proofs.Common.{inl, inr};
 ghost use Rattle.am_syntax.specs.Pieces.{keyed};
-ghost use Rattle.am_syntax.specs.Readers.{Gives, Makes};
+ghost use Rattle.am_syntax.specs.Readers.{GivesRead, Makes};
 ghost use Rattle.am_cert.specs.Grammar.{counterexample, example, negative_count, turn, turn_of, turns};
-ghost use Rattle.am_cert.specs.inside.Shapes.{IsShape, seen_shape};
+ghost use Rattle.am_cert.specs.inside.Shapes.{IsProblemShape, seen_shape};
 ghost use Rattle.am_cert.specs.inside.Shown.{either_turn, read_as, room, seen_example};
 
 use crate::rows::{read_places, read_terms, read_word, read_words};
@@ -31,7 +31,7 @@ pub(crate) fn read_example(
     s: &Shape,
     count: u64,
 ) -> Result<Example, Failure>
-    requires { IsShape (seen_shape s.now) }
+    requires { IsProblemShape (seen_shape s.now) }
     ensures { Makes seen_example result text.old text.new (example (seen_shape s.now) count).read }
 {
     let term = read_terms(alloc, text, s)?;
@@ -55,7 +55,7 @@ fn read_positive(
     s: &Shape,
     count: u64,
 ) -> Result<Turn, Failure>
-    requires { IsShape (seen_shape s.now) }
+    requires { IsProblemShape (seen_shape s.now) }
     ensures { let positive = keyed (codes "positive") (example (seen_shape s.now) count) in
         Makes (λ t. t) result text.old text.new (read_as (λ x. turn_of (inl x)) positive) }
 {
@@ -74,7 +74,7 @@ fn read_positive(
 
 /// `negative` and an example.
 fn read_negative(alloc: Global, text: &mut Cursor<'_>, s: &Shape) -> Result<Turn, Failure>
-    requires { IsShape (seen_shape s.now) }
+    requires { IsProblemShape (seen_shape s.now) }
     ensures { let negative = keyed (codes "negative") (counterexample (seen_shape s.now)) in
         Makes (λ t. t) result text.old text.new (read_as (λ x. turn_of (inr x)) negative) }
 {
@@ -92,7 +92,7 @@ fn read_negative(alloc: Global, text: &mut Cursor<'_>, s: &Shape) -> Result<Turn
 
 /// A turn after others with so many negative examples.
 fn read_either(alloc: Global, text: &mut Cursor<'_>, s: &Shape, count: u64) -> Result<Turn, Failure>
-    requires { IsShape (seen_shape s.now) }
+    requires { IsProblemShape (seen_shape s.now) }
     ensures { Makes (λ t. t) result text.old text.new (read_as turn_of (either_turn (seen_shape s.now) count)) }
 {
     if is_next(text, b"positive") {
@@ -126,7 +126,7 @@ pub(crate) fn negative_count(seen: &[Turn]) -> u64
 
 /// Refuses the next token with `Count`, where no more may stand here.
 fn expect_room(text: &mut Cursor<'_>, may: bool) -> Result<(), Cause>
-    ensures { Gives (λ _. tt) result text.old text.new (room may) }
+    ensures { GivesRead (λ _. tt) result text.old text.new (room may) }
 {
     if may {
         Ok(())
@@ -144,7 +144,7 @@ fn read_turn(
     most: usize,
     seen: &[Turn],
 ) -> Result<Turn, Failure>
-    requires { IsShape (seen_shape s.now) }
+    requires { IsProblemShape (seen_shape s.now) }
     ensures { Makes (λ t. t) result text.old text.new (turn (seen_shape s.now) most seen.now).read }
 {
     expect_room(text, seen.len() < most)?;
@@ -161,7 +161,7 @@ struct Turns {
 impl<'a> Item<'a> for Turns {
     ghost use Rattle.am_query.specs.declared.turn.Turn.{Turn as Data};
     ghost use Rattle.am_cert.specs.Grammar.{turn};
-    ghost use Rattle.am_cert.specs.inside.Shapes.{IsShape, seen_shape};
+    ghost use Rattle.am_cert.specs.inside.Shapes.{IsProblemShape, seen_shape};
 
     type Value = Turn;
 
@@ -171,7 +171,7 @@ impl<'a> Item<'a> for Turns {
 
     ghost reads = { λ own seen. (turn (seen_shape own.shape) own.most seen).read };
 
-    ghost can = { λ own. IsShape (seen_shape own.shape) };
+    ghost can = { λ own. IsProblemShape (seen_shape own.shape) };
 
     fn read(&self, alloc: Global, text: &mut Cursor<'a>, seen: &[Turn]) -> Result<Turn, Failure> {
         read_turn(alloc, text, &self.shape, self.most, seen)
@@ -196,7 +196,7 @@ pub(crate) fn read_turns(
     s: &Shape,
     most: u32,
 ) -> Result<Trace, Failure>
-    requires { IsShape (seen_shape s.now) }
+    requires { IsProblemShape (seen_shape s.now) }
     ensures { Makes (λ ts. ts) result text.old text.new (turns (seen_shape s.now) most).read }
 {
     let turns = Turns {

@@ -92,8 +92,8 @@ pub record IsSeen (found : Bool) (wanted : ℕ) (c : List ℕ) : Type 0 where
   pub none : ¬ (Contains c (opposite_of wanted))
 
 -- the marks are the first ones, and the literals of a list but those of a variable
-abbrev pub AreJoined : List Bool → ℕ → List ℕ → List Bool → Type 0
-AreJoined first v c marks =
+abbrev pub AreJoinedMarks : List Bool → ℕ → List ℕ → List Bool → Type 0
+AreJoinedMarks first v c marks =
     (m : ℕ) → (mark_at marks m ≡ true) ↔ ((mark_at first m ≡ true) ⊎ (Contains c m × (¬ (variable_of m ≡ v))))
 
 module _ (wanted : ℕ) (xs : List ℕ) (i : ℕ) (lt : i < length xs) where
@@ -101,8 +101,8 @@ module _ (wanted : ℕ) (xs : List ℕ) (i : ℕ) (lt : i < length xs) where
   pub others_more : (first old new : List Bool) (l : ℕ)
       → ((m : ℕ) → mark_at new m ≡ cond (eqb m l) true (mark_at old m)) → get_or xs i 0 ≡ l
       → variable_of l ≢ variable_of wanted
-      → AreJoined first (variable_of wanted) (take i xs) old
-      → AreJoined first (variable_of wanted) (take (i + 1) xs) new
+      → AreJoinedMarks first (variable_of wanted) (take i xs) old
+      → AreJoinedMarks first (variable_of wanted) (take (i + 1) xs) new
   others_more first old new l put here ne h m = (
     (λ t. elim ((put_iff old new l put m).0 t) [
       | inl e ↦ inr (into_more xs i lt m (inr (here ∙ e)), (λ same. ne (ap variable_of e ∙ same)))
@@ -133,8 +133,8 @@ module _ (wanted : ℕ) (xs : List ℕ) (i : ℕ) (lt : i < length xs) where
 
   -- the wanted literal is found
   pub joined_wanted : (first marks : List Bool) → get_or xs i 0 ≡ wanted
-      → AreJoined first (variable_of wanted) (take i xs) marks
-      → AreJoined first (variable_of wanted) (take (i + 1) xs) marks
+      → AreJoinedMarks first (variable_of wanted) (take i xs) marks
+      → AreJoinedMarks first (variable_of wanted) (take (i + 1) xs) marks
   joined_wanted first marks here h m = (
     (λ t. elim ((h m).0 t) [ inl a ↦ inl a | inr b ↦ inr (into_more xs i lt m (inl b.0), b.1) ]),
     (λ s. (h m).1 (elim s [
@@ -254,7 +254,7 @@ module _ (v : ℕ) (c d : List ℕ) (marks : List Bool) (are : AreMarksOf c mark
       )
 
       -- with the others put in and the pivot taken out, the marks are those of the resolvent
-      pub resolved : (joined new : List Bool) → AreJoined marks (variable_of (opposite_of l)) d joined
+      pub resolved : (joined new : List Bool) → AreJoinedMarks marks (variable_of (opposite_of l)) d joined
           → ((m : ℕ) → mark_at new m ≡ cond (eqb m l) false (mark_at joined m))
           → AreMarksOf (resolvent v c d) new
       resolved joined new h out =

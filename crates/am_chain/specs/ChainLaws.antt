@@ -9,7 +9,7 @@ use Rattle.am_chain.specs.declared.chain.Chain.{Chain}
 use Rattle.am_chain.specs.declared.fault.ChainFault.{ChainFault}
 use Rattle.am_chain.specs.Resolvent.{has_pivot, resolvent}
 use Rattle.am_chain.specs.Chains.{after_step, after_steps, and_then, clause_of}
-use Rattle.am_chain.specs.Replay.{Derives, replay}
+use Rattle.am_chain.specs.Replay.{DerivesClauses, replay}
 
 -- a literal is the pivot of two clauses: the first holds it and not its opposite, and the second its
 -- opposite and not the literal
@@ -49,10 +49,10 @@ ChainsStayBelow = (vars : ℕ) (clauses : List (List ℕ)) (chain : Chain) (clau
 -- all clauses that a log derives from a formula are in order and over its variables
 abbrev pub LogsStayBelow : Type 0
 LogsStayBelow = (vars : ℕ) (clauses derived : List (List ℕ)) (log : List Chain)
-    → IsFormula clauses vars → Derives clauses log derived → All (IsRisingBelow vars) derived
+    → IsFormula clauses vars → DerivesClauses clauses log derived → All (IsRisingBelow vars) derived
 
 -- where the chains before one are valid and that one isn't, its fault is the log's first
 abbrev pub FirstFaultsStand : Type 0
 FirstFaultsStand = (clauses derived : List (List ℕ)) (before after : List Chain) (chain : Chain) (f : ChainFault)
-    → Derives clauses before derived → clause_of (clauses ++ derived) chain ≡ Err f
+    → DerivesClauses clauses before derived → clause_of (clauses ++ derived) chain ≡ Err f
     → replay clauses [] (before ++ chain ∷ after) ≡ Err (record { chain = length before; fault = f })

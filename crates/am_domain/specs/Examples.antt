@@ -33,16 +33,17 @@ abbrev pub Excludes : Question → List Term → Negative → Type 0
 Excludes q terms e = ¬ IsMember q (results q terms e.inputs) e.word
 
 -- a transformer covers all positive examples, and excludes all negative ones
-pub record Satisfies (q : Question) (terms : List Term) (positives : List Positive) (negatives : List Negative)
+pub record SatisfiesExamples (q : Question) (terms : List Term) (positives : List Positive) (negatives : List Negative)
     : Type 0 where
   pub covers : All (Covers q terms) positives
   pub excludes : All (Excludes q terms) negatives
 
 -- no derivable transformer satisfies the examples
 abbrev pub NoneSatisfies : Question → List Positive → List Negative → Type 0
-NoneSatisfies q positives negatives = (terms : List Term) → q.Derivable terms → ¬ Satisfies q terms positives negatives
+NoneSatisfies q positives negatives = (terms : List Term) → q.Derivable terms → ¬ SatisfiesExamples q terms positives
+    negatives
 
 -- no derivable transformer satisfies the examples and excludes, at some inputs, a word that this one admits
 abbrev pub NoneIsCloser : Question → List Term → List Positive → List Negative → Type 0
 NoneIsCloser q terms positives negatives =
-    (other : List Term) → q.Derivable other → Satisfies q other positives negatives → ¬ Exceeds q terms other
+    (other : List Term) → q.Derivable other → SatisfiesExamples q other positives negatives → ¬ Exceeds q terms other

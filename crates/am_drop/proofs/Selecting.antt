@@ -11,7 +11,7 @@ use Rattle.am_problem.specs.Problem.{question_of}
 use Rattle.am_problem.specs.declared.examples.Negative.{Negative}
 use Rattle.am_query.proofs.Laws.{kept_grow, places_grow}
 use Rattle.am_query.specs.Queries.{AreFitted, AreStored}
-use Rattle.am_query.specs.Transformers.{IsTransformerOf, Suits}
+use Rattle.am_query.specs.Transformers.{IsTransformerOf, SuitsExamples}
 use Rattle.am_query.specs.Turns.{at_places}
 use Rattle.am_drop.specs.declared.keeper.Keeper.{Keeper}
 use Rattle.am_drop.specs.declared.keeper.Selection.{Selection}
@@ -27,7 +27,7 @@ example k keeper n e at =
 -- where the transformer at hand satisfies a further example, it satisfies all
 pub suits_further : (k : Keeper) (n : ℕ) (e : Negative) → slice_get k.neg.now n ≡ Some e → (s : Selection) →
     IsSelection k n s → Excludes (question_of k.problem.now) s.term (negative_of k.problem.now e) →
-    Suits k.problem.now s.term k.pos.now (at_places k.neg.now (s.places ++ n ∷ []))
+    SuitsExamples k.problem.now s.term k.pos.now (at_places k.neg.now (s.places ++ n ∷ []))
 suits_further k n e at s selected excluded =
     let before = at_places k.neg.now s.places in
     let all = All-push (Excludes (question_of k.problem.now) s.term) (negatives_of k.problem.now before)
@@ -74,7 +74,7 @@ module _ (k : Keeper) (keeper : IsKeeper k) (n : ℕ) (e : Negative) (at : slice
 
   -- a further example is selected with a transformer that satisfies it beside the selected ones
   pub selected_further : (term : List Term) → IsTransformerOf k.problem.now term →
-      Suits k.problem.now term k.pos.now (at_places k.neg.now (s.places ++ n ∷ [])) →
+      SuitsExamples k.problem.now term k.pos.now (at_places k.neg.now (s.places ++ n ∷ [])) →
       IsSelection k (n + 1) (record { places = s.places ++ n ∷ []; term = term })
   selected_further term derivable suits = record {
     kept = (kept_grow k.problem.now k.pos.now k.neg.now n s.places selected.kept).0 (term, derivable, suits);

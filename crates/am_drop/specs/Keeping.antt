@@ -6,7 +6,7 @@ use Rattle.am_problem.specs.Problem.{Problem, question_of}
 use Rattle.am_problem.specs.declared.examples.Negative.{Negative}
 use Rattle.am_problem.specs.declared.examples.Positive.{Positive}
 use Rattle.am_query.specs.Answers.{IsRefuted, IsSpentOn}
-use Rattle.am_query.specs.Transformers.{IsTransformerOf, Suits}
+use Rattle.am_query.specs.Transformers.{IsTransformerOf, SuitsExamples}
 use Rattle.am_query.specs.Turns.{AreAskedPlaces, AreKept, at_places}
 use Rattle.am_query.specs.declared.query.Query.TheVariants.{Fit}
 use Rattle.am_drop.specs.declared.keeping.Keeping.{Keeping}
@@ -16,7 +16,8 @@ use Rattle.am_drop.specs.declared.keeping.Keeping.TheVariants.{Kept, Nothing, Sp
 -- satisfies the positive examples; or the limit was reached by the fit of the examples at some places
 abbrev pub IsKeeping : Problem → List Positive → List Negative → ℕ → Keeping → Type 0
 IsKeeping p positives negatives limit (Kept places t) =
-    AreKept p positives negatives places × IsTransformerOf p t × Suits p t positives (at_places negatives places)
+    AreKept p positives negatives places × IsTransformerOf p t × SuitsExamples p t positives
+    (at_places negatives places)
 IsKeeping p positives negatives limit (Nothing log) =
     NoneSatisfies (question_of p) (positives_of p positives) [] × IsRefuted p (Fit positives []) limit log
 IsKeeping p positives negatives limit (Spent places log) =

@@ -1,9 +1,9 @@
 //! Which negative examples stay beside a new positive one.
 
 ghost use Rattle.std.specs.Prelude.{ℕ, ◌≡◌, ◌^◌, ◌<◌, ◌≤◌, [], ◌∷◌, ◌++◌, None, IfOk, length};
-ghost use Rattle.am_query.specs.Answers.{IsFitAnswer, IsSpent};
+ghost use Rattle.am_query.specs.Answers.{IsFitAnswer, IsSpentQuery};
 ghost use Rattle.am_query.specs.Queries.{AreFitted, input_count};
-ghost use Rattle.am_query.specs.Transformers.{IsTransformerOf, Suits};
+ghost use Rattle.am_query.specs.Transformers.{IsTransformerOf, SuitsExamples};
 ghost use Rattle.am_query.specs.Turns.{at_places};
 ghost use Rattle.am_query.specs.declared.query.Query.TheVariants.{Fit};
 ghost use Rattle.am_drop.specs.Keeping.{IsKeeping, IsKeepingSpent};
@@ -78,7 +78,7 @@ impl Keeper<'_> {
     fn keep(&self, term: Transformer) -> Result<Keeping, AllocError>
         requires keeper { IsKeeper self.now }
         requires derivable { IsTransformerOf self.now.problem.now term }
-        requires suits { Suits self.now.problem.now term self.now.pos.now [] }
+        requires suits { SuitsExamples self.now.problem.now term self.now.pos.now [] }
         ensures answer { IfOk result
             (IsKeeping self.now.problem.now self.now.pos.now self.now.neg.now self.now.limit) }
         ensures enough { IfOk result (λ k. HasEnough self.now → ¬ IsKeepingSpent k) }
@@ -140,7 +140,7 @@ impl Keeper<'_> {
             (at_places self.now.neg.now (places.now ++ place ∷ [])) }
         ensures answer { IfOk result (IsFitAnswer self.now.problem.now self.now.pos.now
             (at_places self.now.neg.now (places.now ++ place ∷ [])) self.now.limit) }
-        ensures enough { IfOk result (λ a. HasEnough self.now → ¬ IsSpent a) }
+        ensures enough { IfOk result (λ a. HasEnough self.now → ¬ IsSpentQuery a) }
     {
         let mut examples = at_places(self.alloc, self.neg, places)?;
         examples.push(self.neg.get(place as usize).copy())?;

@@ -11,7 +11,7 @@ use Rattle.am_problem.specs.Problem.{Problem, question_of}
 use Rattle.am_problem.specs.declared.examples.Negative.{Negative}
 use Rattle.am_problem.specs.declared.examples.Positive.{Positive}
 use Rattle.am_query.specs.Queries.{AreCompared, AreFitted}
-use Rattle.am_query.specs.Transformers.{IsAdmitted, IsTransformerOf, IsUncovered, Suits}
+use Rattle.am_query.specs.Transformers.{IsAdmitted, IsTransformerOf, IsUncovered, SuitsExamples}
 use Rattle.am_query.specs.TurnLaws.{AreShown}
 use Rattle.am_query.specs.Turns.{AreKept, IsTurn, after_trace, after_turn, at_places}
 use Rattle.am_query.specs.declared.turn.Turn.{Turn}
@@ -21,19 +21,19 @@ use Rattle.am_dual.specs.Synthesis.{IsTraceWithin}
 use Rattle.am_dual.specs.declared.turns.Synthesis.{Synthesis}
 use Rattle.am_dual.specs.declared.turns.Next.{Next}
 use Rattle.am_dual.specs.declared.turns.Next.TheVariants.{End, Turn as NextTurn}
-use Rattle.am_dual.specs.inside.Underway.{GoesOn, IsNext, IsRight, IsUnderway, trace_so_far, turns_left}
+use Rattle.am_dual.specs.inside.Underway.{GoesOn, IsNextTurn, IsRightNext, IsUnderway, trace_so_far, turns_left}
 
 -- a transformer that excludes another negative example satisfies it too
 pub with_negative : (p : Problem) (t : List Term) (positives : List Positive) (negatives : List Negative)
-    (e : Negative) → Suits p t positives negatives → Excludes (question_of p) t (negative_of p e) →
-    Suits p t positives (negatives ++ e ∷ [])
+    (e : Negative) → SuitsExamples p t positives negatives → Excludes (question_of p) t (negative_of p e) →
+    SuitsExamples p t positives (negatives ++ e ∷ [])
 with_negative p t positives negatives e suits excludes =
     let q = question_of p in
     let all = All-push (Excludes q t) (negatives_of p negatives) (negative_of p e) suits.excludes excludes in
     record { covers = suits.covers; excludes = rw (map-append (negative_of p) negatives (e ∷ [])) all }
 
 -- no examples, no turns, and a transformer
-pub started : (p : Problem) (t : List Term) → IsTransformerOf p t → Suits p t [] [] →
+pub started : (p : Problem) (t : List Term) → IsTransformerOf p t → SuitsExamples p t [] [] →
     IsUnderway p p.turns (record { trace = []; state = record { positives = []; negatives = [] }; term = t })
 started p t derivable suits = record {
   within = record { valid = tt; few = omega arith };
@@ -81,7 +81,7 @@ module _ (p : Problem) (s : Synthesis) (underway : IsUnderway p p.turns s) where
   -- a positive turn, and a transformer that satisfies the kept examples
   pub after_positive : (e : Positive) (kept : List ℕ) (t : List Term) → IsUncovered p s.term e →
       AreKept p (s.state.positives ++ e ∷ []) s.state.negatives kept → IsTransformerOf p t →
-      Suits p t (s.state.positives ++ e ∷ []) (at_places s.state.negatives kept) →
+      SuitsExamples p t (s.state.positives ++ e ∷ []) (at_places s.state.negatives kept) →
       IsUnderway p (p.turns + 1) (record {
         trace = s.trace ++ PositiveTurn s.term e kept ∷ [];
         state = record { positives = s.state.positives ++ e ∷ []; negatives = at_places s.state.negatives kept };
@@ -97,7 +97,7 @@ module _ (p : Problem) (s : Synthesis) (underway : IsUnderway p p.turns s) where
 
   -- a negative turn, and another transformer that satisfies its example too
   pub after_negative : (e : Negative) (t : List Term) → IsSound (question_of p) s.term → IsAdmitted p s.term e →
-      IsTransformerOf p t → Suits p t s.state.positives (s.state.negatives ++ e ∷ []) →
+      IsTransformerOf p t → SuitsExamples p t s.state.positives (s.state.negatives ++ e ∷ []) →
       IsUnderway p (p.turns + 1) (record {
         trace = s.trace ++ NegativeTurn s.term e ∷ [];
         state = record { positives = s.state.positives; negatives = s.state.negatives ++ e ∷ [] };
@@ -125,18 +125,18 @@ module _ (p : Problem) (s : Synthesis) (underway : IsUnderway p p.turns s) where
 
 -- another turn leaves fewer
 pub fewer_left : (p : Problem) (s : Synthesis) (next : Next) → IsUnderway p p.turns s →
-    IsNext p s.trace next → turns_left p next < turns_left p (NextTurn s)
+    IsNextTurn p s.trace next → turns_left p next < turns_left p (NextTurn s)
 fewer_left p s (NextTurn further) underway is =
     let more = ap length is.1.1 in
     omega (arith, underway.within.few, more, length-append s.trace (is.1.0 ∷ []))
 fewer_left p s (End o) underway is = omega (arith, underway.within.few)
 
 -- what comes next is right, and loses no turn
-pub next_is_right : (p : Problem) (trace : List Turn) (next : Next) → IsNext p trace next → IsRight p next
+pub next_is_right : (p : Problem) (trace : List Turn) (next : Next) → IsNextTurn p trace next → IsRightNext p next
 next_is_right p trace (NextTurn s) is = is.0
 next_is_right p trace (End o) is = is.0
 
-pub next_goes_on : (p : Problem) (trace : List Turn) (next : Next) → IsNext p trace next →
+pub next_goes_on : (p : Problem) (trace : List Turn) (next : Next) → IsNextTurn p trace next →
     GoesOn trace (trace_so_far next)
 next_goes_on p trace (NextTurn s) is = (is.1.0 ∷ [], is.1.1)
 next_goes_on p trace (End o) (is, inl same) = ([], same ∙ sym (append-nil trace))

@@ -2,7 +2,7 @@
 
 ghost use Rattle.std.specs.Prelude.{ℕ, ◌+◌, ◌*◌, ◌^◌, ◌≤◌, IfOk};
 ghost use Rattle.am_tree.specs.Counts.{tuple_count};
-ghost use Rattle.am_dual.specs.inside.Underway.{GoesOn, IsEnd, IsRight, trace_of, trace_so_far};
+ghost use Rattle.am_dual.specs.inside.Underway.{GoesOn, IsEnd, IsRightNext, trace_of, trace_so_far};
 ghost use Rattle.am_dual.specs.Synthesis.{AreConflictsSpent, AreTurnsSpent, IsSynthesis, most_inputs};
 
 use crate::turns::{Next, Synthesis};
@@ -26,7 +26,7 @@ pub fn synthesise(alloc: Global, p: &Problem) -> Result<Outcome, AllocError>
 
 /// Goes on turn by turn to the end, and loses none of the turns.
 fn to_the_end(alloc: Global, p: &Problem, mut next: Next) -> Result<Outcome, AllocError>
-    requires { IsRight p.now next }
+    requires { IsRightNext p.now next }
     ensures end { IfOk result (IsEnd p.now) }
     ensures turns { IfOk result (λ o. GoesOn (trace_so_far next) (trace_of o)) }
 {

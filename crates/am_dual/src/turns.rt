@@ -6,7 +6,7 @@ ghost use Rattle.am_problem.specs.Problem.{question_of};
 ghost use Rattle.am_query.specs.Answers.{IsRefuted};
 ghost use Rattle.am_query.specs.Transformers.{IsUncovered};
 ghost use Rattle.am_query.specs.declared.query.Query.TheVariants.{Sound};
-ghost use Rattle.am_dual.specs.inside.Underway.{IsBegun, IsNext, IsUnderway, NothingSuits};
+ghost use Rattle.am_dual.specs.inside.Underway.{IsBegun, IsNextTurn, IsUnderway, NothingSuits};
 
 use am_chain::Log;
 use am_drop::{Keeping, keep};
@@ -53,7 +53,7 @@ impl Synthesis {
     /// A turn: positive where the transformer isn't sound, else negative where there is a closer one.
     pub fn turn(self, alloc: Global, p: &Problem) -> Result<Next, AllocError>
         requires { IsUnderway p.now p.now.turns self }
-        ensures { IfOk result (IsNext p.now self.trace) }
+        ensures { IfOk result (IsNextTurn p.now self.trace) }
     {
         match sound(alloc, p, &self.term, limit(p))? {
             QueryAnswer::Refuted(log) => self.negative_turn(alloc, p, log),
@@ -78,7 +78,7 @@ impl Synthesis {
     ) -> Result<Next, AllocError>
         requires underway { IsUnderway p.now p.now.turns self }
         requires uncovered { IsUncovered p.now self.term example }
-        ensures { IfOk result (IsNext p.now self.trace) }
+        ensures { IfOk result (IsNextTurn p.now self.trace) }
     {
         let Synthesis {
             trace,
@@ -120,7 +120,7 @@ impl Synthesis {
         requires underway { IsUnderway p.now p.now.turns self }
         requires sound { IsSound (question_of p.now) self.term }
         requires refuted { IsRefuted p.now (Sound self.term) p.now.conflicts sound_log }
-        ensures { IfOk result (IsNext p.now self.trace) }
+        ensures { IfOk result (IsNextTurn p.now self.trace) }
     {
         let Synthesis {
             trace,
@@ -165,7 +165,7 @@ fn go_on(
 ) -> Result<Next, AllocError>
     requires { IsUnderway p.now (p.now.turns + 1)
         (record { trace = trace ++ turn ∷ []; state = state; term = term }) }
-    ensures { IfOk result (IsNext p.now trace) }
+    ensures { IfOk result (IsNextTurn p.now trace) }
 {
     trace.push(turn)?;
     if trace.len() > p.turns() as usize {
@@ -178,7 +178,7 @@ fn go_on(
 /// made, the turns were spent, else none is sound.
 fn absent(p: &Problem, mut trace: Trace, turn: Turn, log: Log) -> Result<Next, AllocError>
     requires { NothingSuits p.now (p.now.turns + 1) (trace ++ turn ∷ []) log }
-    ensures { IfOk result (IsNext p.now trace) }
+    ensures { IfOk result (IsNextTurn p.now trace) }
 {
     trace.push(turn)?;
     if trace.len() <= p.turns() as usize {

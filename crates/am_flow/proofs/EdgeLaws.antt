@@ -5,16 +5,18 @@ use Rattle.std.specs.Prelude.{◌⊎◌, nat_lt}
 use Rattle.std.proofs.Math.Pow.{pow_mono}
 use Rattle.am_syntax.specs.Exact.{IsExact, always}
 use Rattle.am_syntax.specs.Numerals.{is_digits}
-use Rattle.am_syntax.specs.Pieces.{◌▹◌, Piece, below, choice, key, key_or, keyed, next_is, number, repeat, syntax}
+use Rattle.am_syntax.specs.Pieces.{◌▹◌, Piece, below, choice, is_number_next, key, key_or, keyed, next_is, number}
+use Rattle.am_syntax.specs.Pieces.{repeat}
+use Rattle.am_syntax.specs.Pieces.{syntax}
 use Rattle.am_syntax.specs.Readers.{Words}
 use Rattle.am_syntax.proofs.Laws.{below_law, choice_law, digits_of_any, key_law, keyed_law, number_law, one_more_law}
 use Rattle.am_syntax.proofs.Laws.{repeat_law, same_bytes, seen_good_law, seen_law, then_law}
 use Rattle.am_flow.specs.declared.flow.Action.{Action}
 use Rattle.am_flow.specs.declared.flow.Action.TheVariants.{Any, Apply, Copy, Set, Skip}
 use Rattle.am_flow.specs.declared.flow.Edge.{Edge}
-use Rattle.am_flow.specs.Grammar.{ActionParts, Shape, action, action_of, action_parts, application, edge, edge_line}
-use Rattle.am_flow.specs.Grammar.{edge_of, edge_parts, edges, is_number_next, variable}
-use Rattle.am_flow.specs.inside.Shapes.{IsShape}
+use Rattle.am_flow.specs.Grammar.{ActionParts, FlowShape, action, action_of, action_parts, application, edge, edge_line}
+use Rattle.am_flow.specs.Grammar.{edge_of, edge_parts, edges, variable}
+use Rattle.am_flow.specs.inside.Shapes.{IsFlowShape}
 
 -- the same law, where less may follow
 pub narrowed : {X : Type 0} {p : Piece X} {May Then : Words → Type 0} → IsExact p May →
@@ -23,6 +25,7 @@ narrowed law meets = record {
   takes = law.takes;
   again = λ s x u good taken then. law.again s x u good taken (meets _ then);
   advances = law.advances;
+  no_further = law.no_further;
 }
 
 -- no number follows
@@ -36,7 +39,7 @@ narrow_word w h = let p : 2 ^ w ≤ 2 ^ 8 = pow_mono h in omega (arith, p)
 number_goes : (n : ℕ) (rest : Words) → is_number_next (decimal n ∷ rest) ≡ true
 number_goes n rest = digits_of_any n
 
-module _ (s : Shape) (is : IsShape s) where
+module _ (s : FlowShape) (is : IsFlowShape s) where
   -- a variable is read exactly where its number stands
   pub variable_law : IsExact (variable s) always
   variable_law = below_law 0 s.variables is.variables
@@ -52,8 +55,8 @@ module _ (s : Shape) (is : IsShape s) where
   variable_goes seen a rest good = number_goes a rest
 
   pub more_law : IsExact (repeat is_number_next (λ _. variable s)) NoNumber
-  more_law = repeat_law (λ _. variable_law) is_number_next variable_moves (λ rest h. (h, tt)) variable_goes
-      (λ _ _ _ _. tt)
+  more_law = repeat_law (λ _. variable_law) is_number_next variable_moves (λ _ _ _. refl) (λ rest h. (h, tt))
+      variable_goes (λ _ _ _ _. tt)
 
   -- ---- the actions
 
@@ -91,7 +94,7 @@ module _ (s : Shape) (is : IsShape s) where
   copy_on = choice (next_is (codes "copy")) copy apply
 
   copy_on_law : IsExact copy_on NoNumber
-  copy_on_law = choice_law (next_is (codes "copy")) copy_law apply_law (λ _ _ _. refl) (λ _ _ _. refl)
+  copy_on_law = choice_law (next_is (codes "copy")) copy_law apply_law (λ _ _ _. refl) (λ _ _ _. refl) (λ _ _ _. refl)
 
   abbrev set_on : Piece ((ℕ × ℕ) ⊎ ((ℕ × ℕ) ⊎ (ℕ × (ℕ × (ℕ × List ℕ)))))
   set_on = choice (next_is (codes "set")) set copy_on
@@ -102,7 +105,7 @@ module _ (s : Shape) (is : IsShape s) where
   no_set (inr x) rest good = refl
 
   set_on_law : IsExact set_on NoNumber
-  set_on_law = choice_law (next_is (codes "set")) set_law copy_on_law (λ _ _ _. refl) no_set
+  set_on_law = choice_law (next_is (codes "set")) set_law copy_on_law (λ _ _ _. refl) no_set (λ _ _ _. refl)
 
   abbrev any_on : Piece (ℕ ⊎ ((ℕ × ℕ) ⊎ ((ℕ × ℕ) ⊎ (ℕ × (ℕ × (ℕ × List ℕ))))))
   any_on = choice (next_is (codes "any")) (keyed (codes "any") (variable s)) set_on
@@ -114,7 +117,7 @@ module _ (s : Shape) (is : IsShape s) where
   no_any (inr (inr x)) rest good = refl
 
   any_on_law : IsExact any_on NoNumber
-  any_on_law = choice_law (next_is (codes "any")) any_law set_on_law (λ _ _ _. refl) no_any
+  any_on_law = choice_law (next_is (codes "any")) any_law set_on_law (λ _ _ _. refl) no_any (λ _ _ _. refl)
 
   no_skip : (y : ℕ ⊎ ((ℕ × ℕ) ⊎ ((ℕ × ℕ) ⊎ (ℕ × (ℕ × (ℕ × List ℕ)))))) (rest : Words) → any_on.Good y →
       next_is (codes "skip") (any_on.spell y ++ rest) ≡ false
@@ -134,7 +137,7 @@ module _ (s : Shape) (is : IsShape s) where
   skip_on_law : IsExact skip_on NoNumber
   skip_on_law =
       choice_law (next_is (codes "skip")) (narrowed (key_law syntax (codes "skip")) (λ _ _. tt)) any_on_law
-      skip_spelled no_skip
+      skip_spelled no_skip (λ _ _ _. refl)
 
   there : (x : ActionParts) → skip_on.Good x → action_parts s (action_of x) ≡ x
   there (inl u) good = refl
@@ -199,4 +202,5 @@ module _ (s : Shape) (is : IsShape s) where
   -- edges are read exactly where they are spelled, up to the line after them
   pub edges_law : IsExact (edges s) Closes
   unfolding edges
-  edges_law = repeat_law edge_law (next_is (codes "edge")) edge_moves closes_both edge_goes edge_is_no_number
+  edges_law = repeat_law edge_law (next_is (codes "edge")) edge_moves (λ _ _ _. refl) closes_both edge_goes
+      edge_is_no_number

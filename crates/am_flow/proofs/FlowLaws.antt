@@ -14,18 +14,19 @@ use Rattle.am_flow.specs.declared.flow.Action.{Action}
 use Rattle.am_flow.specs.declared.flow.Action.TheVariants.{Any, Apply, Copy, Set, Skip}
 use Rattle.am_flow.specs.declared.flow.Edge.{Edge}
 use Rattle.am_flow.specs.Flows.{Flow, IsAction, IsEdge, IsFlow}
-use Rattle.am_flow.specs.Grammar.{FlowParts, Shape, action, edge, edge_line, edges, flow, flow_of, flow_parts, variable}
+use Rattle.am_flow.specs.Grammar.{FlowParts, FlowShape, action, edge, edge_line, edges, flow, flow_of, flow_parts}
+use Rattle.am_flow.specs.Grammar.{variable}
 use Rattle.am_flow.specs.Texts.{FlowsAreExact, GoodFlowsAreFlows}
-use Rattle.am_flow.specs.inside.Shapes.{IsShape}
+use Rattle.am_flow.specs.inside.Shapes.{IsFlowShape}
 use Rattle.am_flow.proofs.EdgeLaws.{edges_law}
 
 -- ---- texts
 
-abbrev pub shape_at : ℕ → ℕ → ℕ → ℕ → Shape
+abbrev pub shape_at : ℕ → ℕ → ℕ → ℕ → FlowShape
 shape_at n w v m = record { width = w; operations = n; variables = v; nodes = m }
 
 -- counts within a flow's limits make a shape
-pub small_shape : (n w v m : ℕ) → n < 2 ^ 32 → w ≤ 8 → v ≤ 8 → m ≤ 64 → IsShape (shape_at n w v m)
+pub small_shape : (n w v m : ℕ) → n < 2 ^ 32 → w ≤ 8 → v ≤ 8 → m ≤ 64 → IsFlowShape (shape_at n w v m)
 small_shape n w v m few narrow some short =
     record { width = narrow; operations = omega arith; variables = omega arith; nodes = omega arith }
 
@@ -50,7 +51,7 @@ flow_law n few =
 -- ---- limits
 
 module _ (f : Flow) (n : ℕ) where
-  abbrev s : Shape
+  abbrev s : FlowShape
   s = shape_at n f.width f.variables f.nodes
 
   variables_limits : (seen more : List ℕ) → good_from (λ _. variable s) seen more → All (λ b. b < f.variables) more

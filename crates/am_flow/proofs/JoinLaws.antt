@@ -5,10 +5,10 @@ use Rattle.std.proofs.lemmas.List.{drop_all, drop_more, get_or_at, length-drop, 
 use Rattle.std.proofs.lemmas.List.{take_more}
 use Rattle.am_problem.specs.Kinds.{abstraction_of}
 use Rattle.am_flow.specs.Flows.{Flow}
-use Rattle.am_flow.specs.States.{Row, joined_rows}
+use Rattle.am_flow.specs.States.{FlowRow, joined_rows}
 
 -- the value of a join at a variable
-pub get_or-joined_rows : (f : Flow) (row others : Row) (i : ℕ) → i < length row → i < length others →
+pub get_or-joined_rows : (f : Flow) (row others : FlowRow) (i : ℕ) → i < length row → i < length others →
     get_or (joined_rows f row others) i []
     ≡ (abstraction_of f.kind).join f.width (get_or row i []) (get_or others i [])
 get_or-joined_rows f [] others i one two = absurd (omega arith)

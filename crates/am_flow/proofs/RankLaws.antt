@@ -11,11 +11,12 @@ use Rattle.am_problem.specs.Kinds.{abstraction_of, fields_of}
 use Rattle.am_problem.specs.lemmas.KindLaws.{laws_of}
 use Rattle.am_flow.specs.declared.flow.Edge.{Edge}
 use Rattle.am_flow.specs.Flows.{AreOperations, Flow, Operation}
-use Rattle.am_flow.specs.States.{Entry, IsTable, Row, State, all_joined, edge_step, entries_from, entry_after, entry_at}
-use Rattle.am_flow.specs.States.{first_state, joined, joined_rows, round}
-use Rattle.am_flow.specs.inside.Ranks.{IsReached, entry_rank, most_rank, most_rounds, row_rank, state_rank}
-use Rattle.am_flow.specs.inside.Rows.{IsEntry, IsRow, IsState}
-use Rattle.am_flow.proofs.RowLaws.{IsValue, joined_entry, first_state_state, states_are, steps_are_entries}
+use Rattle.am_flow.specs.States.{Entry, FlowRow, IsTable, State, all_joined, edge_step, entries_from, entry_after}
+use Rattle.am_flow.specs.States.{entry_at}
+use Rattle.am_flow.specs.States.{first_state, joined_entries, joined_rows, round}
+use Rattle.am_flow.specs.inside.Ranks.{IsReachedState, entry_rank, most_rank, most_rounds, row_rank, state_rank}
+use Rattle.am_flow.specs.inside.Rows.{IsFlowEntry, IsFlowRow, IsState}
+use Rattle.am_flow.proofs.RowLaws.{IsFlowValue, joined_entry, first_state_state, states_are, steps_are_entries}
 
 -- the new one is the old one, or measures less
 abbrev pub SameOrLess : {A : Type 0} → (A → ℕ) → A → A → Type 0
@@ -43,7 +44,7 @@ less_cons measure x y xs ys (inr less) (inr more) =
 module _ (f : Flow) (width : IsWidth f.width) where
   -- ---- rows and entries
 
-  join_falls : (a b : List ℕ) → IsValue f a → IsValue f b →
+  join_falls : (a b : List ℕ) → IsFlowValue f a → IsFlowValue f b →
       SameOrLess ((abstraction_of f.kind).rank f.width) a ((abstraction_of f.kind).join f.width a b)
   join_falls a b one two =
       let join = (abstraction_of f.kind).join f.width a b in
@@ -53,17 +54,17 @@ module _ (f : Flow) (width : IsWidth f.width) where
             (λ e. both_ways (bytes_eq join a) other ((bytes_eq-Decides join a).1 e)))
       ]
 
-  rows_fall : (row others : Row) → All (IsValue f) row → All (IsValue f) others →
+  rows_fall : (row others : FlowRow) → All (IsFlowValue f) row → All (IsFlowValue f) others →
       SameOrLess (row_rank f) row (joined_rows f row others)
   rows_fall [] others one two = inl refl
   rows_fall (a ∷ row) [] one two = inl refl
   rows_fall (a ∷ row) (b ∷ others) one two =
       less_cons ((abstraction_of f.kind).rank f.width) a ((abstraction_of f.kind).join f.width a b) row
       (joined_rows f row others)
-      (join_falls a b (All-head (IsValue f) a row one) (All-head (IsValue f) b others two))
-      (rows_fall row others (All-tail (IsValue f) a row one) (All-tail (IsValue f) b others two))
+      (join_falls a b (All-head (IsFlowValue f) a row one) (All-head (IsFlowValue f) b others two))
+      (rows_fall row others (All-tail (IsFlowValue f) a row one) (All-tail (IsFlowValue f) b others two))
 
-  row_rank_most : (row : Row) → IsRow f row → row_rank f row ≤ most_rank f
+  row_rank_most : (row : FlowRow) → IsFlowRow f row → row_rank f row ≤ most_rank f
   row_rank_most row is =
       let most = fields_of f.kind * 2 ^ f.width in
       let each : All (λ a. (abstraction_of f.kind).rank f.width a ≤ most) row =
@@ -73,22 +74,23 @@ module _ (f : Flow) (width : IsWidth f.width) where
       ap (λ n. n * most) is.counted ∙ sym (mul_assoc f.variables (fields_of f.kind) (2 ^ f.width)) in
       omega (arith, sum, many)
 
-  entry_falls : (e s : Entry) → IsEntry f e → IsEntry f s → SameOrLess (entry_rank f) e (joined f e s)
+  entry_falls : (e s : Entry) → IsFlowEntry f e → IsFlowEntry f s → SameOrLess (entry_rank f) e (joined_entries f e s)
   entry_falls None None one two = inl refl
   entry_falls None (Some b) one two = inr (omega (arith, row_rank_most b two))
   entry_falls (Some a) None one two = inl refl
   entry_falls (Some a) (Some b) one two =
       elim (rows_fall a b one.values two.values) [ inl same ↦ inl (ap Some same) | inr less ↦ inr less ]
 
-  all_fall : (e : Entry) (steps : List Entry) → IsEntry f e → All (IsEntry f) steps →
+  all_fall : (e : Entry) (steps : List Entry) → IsFlowEntry f e → All (IsFlowEntry f) steps →
       SameOrLess (entry_rank f) e (all_joined f e steps)
   all_fall e [] one all = inl refl
   all_fall e (s ∷ steps) one all =
-      let two = All-head (IsEntry f) s steps all in
-      less_on (entry_rank f) e (joined f e s) (all_joined f (joined f e s) steps) (entry_falls e s one two)
-      (all_fall (joined f e s) steps (joined_entry f width e s one two) (All-tail (IsEntry f) s steps all))
+      let two = All-head (IsFlowEntry f) s steps all in
+      less_on (entry_rank f) e (joined_entries f e s) (all_joined f (joined_entries f e s) steps)
+      (entry_falls e s one two)
+      (all_fall (joined_entries f e s) steps (joined_entry f width e s one two) (All-tail (IsFlowEntry f) s steps all))
 
-  entry_rank_most : (e : Entry) → IsEntry f e → entry_rank f e ≤ most_rank f + 1
+  entry_rank_most : (e : Entry) → IsFlowEntry f e → entry_rank f e ≤ most_rank f + 1
   entry_rank_most None is = omega arith
   entry_rank_most (Some row) is = omega (arith, row_rank_most row is)
 
@@ -138,7 +140,7 @@ module _ (f : Flow) (operations : List Operation) (are : AreOperations f operati
 
 module _ (f : Flow) (operations : List Operation) (are : AreOperations f operations) where
   -- the first state is reached
-  pub first_reached : (state : State) → state ≡ first_state f → IsReached f operations state
+  pub first_reached : (state : State) → state ≡ first_state f → IsReachedState f operations state
   first_reached state e = record {
     rounds = 0;
     reached = e;
@@ -148,11 +150,11 @@ module _ (f : Flow) (operations : List Operation) (are : AreOperations f operati
   }
 
   -- a state that is reached is one
-  pub reached_state : (state : State) → IsReached f operations state → IsState f state
+  pub reached_state : (state : State) → IsReachedState f operations state → IsState f state
   reached_state state r = subst (IsState f) (sym r.reached) (states_are f operations are r.rounds)
 
   -- a round that changes a state lowers its rank
-  pub rank_falls : (state next : State) → IsReached f operations state → next ≡ round f operations state →
+  pub rank_falls : (state next : State) → IsReachedState f operations state → next ≡ round f operations state →
       next ≢ state → state_rank f next < state_rank f state
   rank_falls state next r e other =
       elim (round_falls f operations are state (reached_state state r)) [
@@ -161,8 +163,8 @@ module _ (f : Flow) (operations : List Operation) (are : AreOperations f operati
       ]
 
   -- a round that changes a state is one of the few
-  pub next_reached : (state next : State) → IsReached f operations state → next ≡ round f operations state →
-      next ≢ state → IsReached f operations next
+  pub next_reached : (state next : State) → IsReachedState f operations state → next ≡ round f operations state →
+      next ≢ state → IsReachedState f operations next
   next_reached state next r e other = record {
     rounds = suc r.rounds;
     reached = e ∙ ap (round f operations) r.reached;
@@ -170,7 +172,7 @@ module _ (f : Flow) (operations : List Operation) (are : AreOperations f operati
   }
 
   -- a state that is reached and stays is the table
-  pub stays_table : (state next : State) → IsReached f operations state → next ≡ round f operations state →
+  pub stays_table : (state next : State) → IsReachedState f operations state → next ≡ round f operations state →
       next ≡ state → IsTable f operations state
   stays_table state next r e same =
       record { rounds = r.rounds; reached = r.reached; stays = sym e ∙ same; few = omega (arith, r.few) }

@@ -7,19 +7,20 @@ use Rattle.std.proofs.lemmas.List.{get_or-set_other, get_or-set_same, length-set
 use Rattle.std.proofs.lemmas.List.Elements.{All-from_get_or, All-take, filter_more}
 use Rattle.am_flow.specs.declared.flow.Edge.{Edge}
 use Rattle.am_flow.specs.Flows.{AreOperations, Flow, Operation}
-use Rattle.am_flow.specs.States.{Entry, State, all_joined, edge_step, entries_from, entry_after, entry_at, joined}
+use Rattle.am_flow.specs.States.{Entry, State, all_joined, edge_step, entries_from, entry_after, entry_at}
+use Rattle.am_flow.specs.States.{joined_entries}
 use Rattle.am_flow.specs.States.{round}
-use Rattle.am_flow.specs.inside.Rows.{IsEntry, IsState}
-use Rattle.am_flow.specs.inside.Steps.{CanFollow, JoinsStep}
+use Rattle.am_flow.specs.inside.Rows.{IsFlowEntry, IsState}
+use Rattle.am_flow.specs.inside.Steps.{CanFollowEdge, JoinsStep}
 use Rattle.am_flow.proofs.RowLaws.{all_follow, all_joined_entry, steps_of}
 
 all_joined-push : (f : Flow) (e : Entry) (steps : List Entry) (s : Entry) →
-    all_joined f e (steps ++ s ∷ []) ≡ joined f (all_joined f e steps) s
+    all_joined f e (steps ++ s ∷ []) ≡ joined_entries f (all_joined f e steps) s
 all_joined-push f e [] s = refl
-all_joined-push f e (t ∷ steps) s = all_joined-push f (joined f e t) steps s
+all_joined-push f e (t ∷ steps) s = all_joined-push f (joined_entries f e t) steps s
 
 -- a join with nothing changes nothing
-pub joined-None : (f : Flow) (e : Entry) → joined f e None ≡ e
+pub joined-None : (f : Flow) (e : Entry) → joined_entries f e None ≡ e
 joined-None f None = refl
 joined-None f (Some a) = refl
 
@@ -38,7 +39,7 @@ module _ (f : Flow) (operations : List Operation) (before : State) where
   entry_by-push : (edges : List Edge) (e : Edge) (n : ℕ) (b : Bool) → (e.to == n) ≡ b →
       all_joined f (entry_at before n) (map (edge_step f operations before)
       (filter (λ (e : Edge). e.to == n) edges ++ cond (e.to == n) (e ∷ []) []))
-      ≡ cond b (joined f (entry_by edges n) (edge_step f operations before e)) (entry_by edges n)
+      ≡ cond b (joined_entries f (entry_by edges n) (edge_step f operations before e)) (entry_by edges n)
   entry_by-push edges e n true h =
       let kept = filter (λ (e : Edge). e.to == n) edges in
       let step = edge_step f operations before in
@@ -54,7 +55,8 @@ module _ (f : Flow) (operations : List Operation) (before : State) where
   entry_by-more : (edges : List Edge) (i : ℕ) (e : Edge) (n : ℕ) (b : Bool) → i < length edges → e ≡ get_or edges i e →
       (e.to == n) ≡ b →
       entry_by (take (i + 1) edges) n
-      ≡ cond b (joined f (entry_by (take i edges) n) (edge_step f operations before e)) (entry_by (take i edges) n)
+      ≡ cond b (joined_entries f (entry_by (take i edges) n) (edge_step f operations before e))
+      (entry_by (take i edges) n)
   entry_by-more edges i e n b below here h =
       let test : Edge → Bool = λ (e : Edge). e.to == n in
       let one : List Edge → List Edge = λ rest. filter test (take i edges) ++ rest in
@@ -76,13 +78,13 @@ module _ (f : Flow) (operations : List Operation) (before : State) where
       JoinsStep f operations before e state state
   joins_nothing e state nothing = record {
     counted = refl;
-    there = sym (ap (joined f (entry_at state e.to)) nothing ∙ joined-None f (entry_at state e.to));
+    there = sym (ap (joined_entries f (entry_at state e.to)) nothing ∙ joined-None f (entry_at state e.to));
     others = λ n other. refl;
   }
 
   -- the entry of the edge's end is joined with the step
   pub joins_there : (e : Edge) (state : State) (entry : Entry) → e.to < length state →
-      entry ≡ joined f (entry_at state e.to) (edge_step f operations before e) →
+      entry ≡ joined_entries f (entry_at state e.to) (edge_step f operations before e) →
       JoinsStep f operations before e state (slice_set state e.to entry)
   joins_there e state entry place is = record {
     counted = length-set state e.to entry;
@@ -100,7 +102,7 @@ module _ (f : Flow) (operations : List Operation) (before : State) where
       | inl same ↦
           ap (entry_at new) (sym same)
           ∙ step.there
-          ∙ ap (λ (x : Entry). joined f x (edge_step f operations before e))
+          ∙ ap (λ (x : Entry). joined_entries f x (edge_step f operations before e))
           (is.entries e.to to ∙ ap (entry_by (take i edges)) same)
           ∙ sym (entry_by-more edges i e n true below here (eq-eqb e.to n same))
       | inr other ↦
@@ -138,13 +140,13 @@ pub after_state : (f : Flow) (operations : List Operation) (are : AreOperations 
     (edges : List Edge) (i : ℕ) (state : State) → IsState f before → edges ≡ f.edges →
     IsAfter f operations before (take i edges) state → IsState f state
 after_state f operations are before edges i state is e after =
-    let can = All-take (CanFollow f operations) i edges
-    (subst (All (CanFollow f operations)) (sym e) (all_follow f operations are)) in
+    let can = All-take (CanFollowEdge f operations) i edges
+    (subst (All (CanFollowEdge f operations)) (sym e) (all_follow f operations are)) in
     record {
       counted = after.counted;
-      entries = All-from_get_or (IsEntry f) state None (λ n below.
+      entries = All-from_get_or (IsFlowEntry f) state None (λ n below.
           let within : n < f.nodes = omega (arith, below, after.counted) in
-          subst (IsEntry f) (sym (after.entries n within))
+          subst (IsFlowEntry f) (sym (after.entries n within))
           (all_joined_entry f are.flow.width (entry_at before n)
           (map (edge_step f operations before) (filter (λ (e : Edge). e.to == n) (take i edges)))
           (is.entries n None (omega (arith, within, is.counted)))

@@ -21,12 +21,13 @@ use Rattle.am_flow.specs.declared.flow.Action.{Action}
 use Rattle.am_flow.specs.declared.flow.Action.TheVariants.{Any, Apply, Copy, Set, Skip}
 use Rattle.am_flow.specs.declared.flow.Edge.{Edge}
 use Rattle.am_flow.specs.Flows.{AreOperations, Flow, Operation}
-use Rattle.am_flow.specs.Runs.{AllSound, Applies, HasWords, IsRun, Moves, Point, TablesCoverRuns}
-use Rattle.am_flow.specs.States.{Entry, IsTable, Row, State, all_joined, applied, at, edge_step, entry_after, entry_at}
-use Rattle.am_flow.specs.States.{from_entry, joined, joined_rows, round, state_after, stepped}
-use Rattle.am_flow.specs.inside.Rows.{IsEntry, IsRow, IsState}
-use Rattle.am_flow.specs.inside.Steps.{CanAct, CanApply, CanFollow}
-use Rattle.am_flow.proofs.RowLaws.{IsValue, all_follow, are_inputs, can_apply, edge_entry, found, joined_entry}
+use Rattle.am_flow.specs.Runs.{AllSound, Applies, HasVariableWords, IsRun, Moves, Point, TablesCoverRuns}
+use Rattle.am_flow.specs.States.{Entry, FlowRow, IsTable, State, all_joined, applied, at, edge_step, entry_after}
+use Rattle.am_flow.specs.States.{entry_at}
+use Rattle.am_flow.specs.States.{from_entry, joined_entries, joined_rows, round, state_after, stepped}
+use Rattle.am_flow.specs.inside.Rows.{IsFlowEntry, IsFlowRow, IsState}
+use Rattle.am_flow.specs.inside.Steps.{CanAct, CanApply, CanFollowEdge}
+use Rattle.am_flow.proofs.RowLaws.{IsFlowValue, all_follow, are_inputs, can_apply, edge_entry, found, joined_entry}
 use Rattle.am_flow.proofs.RowLaws.{result_tuple, states_are, steps_of}
 use Rattle.am_flow.proofs.RoundLaws.{round-at}
 
@@ -81,53 +82,56 @@ top_zip f width (suc n) (c ∷ words) many are = (
 -- ---- joins
 
 module _ (f : Flow) (width : IsWidth f.width) where
-  rows_first : (row others : Row) (words : List ℕ) → All (IsValue f) row → All (IsValue f) others →
+  rows_first : (row others : FlowRow) (words : List ℕ) → All (IsFlowValue f) row → All (IsFlowValue f) others →
       AreWords f.width words → AllZip (IsMemberOf f) row words → AllZip (IsMemberOf f) (joined_rows f row others) words
   rows_first [] others words one two are all = all
   rows_first (a ∷ row) [] words one two are all = all
   rows_first (a ∷ row) (b ∷ others) [] one two are all = absurd all
   rows_first (a ∷ row) (b ∷ others) (c ∷ words) one two are all =
-      let join = (laws_of f.kind).joins_above f.width width a b (All-head (IsValue f) a row one)
-      (All-head (IsValue f) b others two) in (
+      let join = (laws_of f.kind).joins_above f.width width a b (All-head (IsFlowValue f) a row one)
+      (All-head (IsFlowValue f) b others two) in (
         join.first c (are 0) all.0,
-        rows_first row others words (All-tail (IsValue f) a row one) (All-tail (IsValue f) b others two)
+        rows_first row others words (All-tail (IsFlowValue f) a row one) (All-tail (IsFlowValue f) b others two)
             (λ i. are (suc i)) all.1,
       )
 
-  rows_second : (row others : Row) (words : List ℕ) → length row ≡ length others → All (IsValue f) row →
-      All (IsValue f) others → AreWords f.width words → AllZip (IsMemberOf f) others words →
+  rows_second : (row others : FlowRow) (words : List ℕ) → length row ≡ length others → All (IsFlowValue f) row →
+      All (IsFlowValue f) others → AreWords f.width words → AllZip (IsMemberOf f) others words →
       AllZip (IsMemberOf f) (joined_rows f row others) words
   rows_second [] [] words many one two are all = all
   rows_second [] (b ∷ others) words many one two are all = absurd (omega (arith, many))
   rows_second (a ∷ row) [] words many one two are all = absurd (omega (arith, many))
   rows_second (a ∷ row) (b ∷ others) [] many one two are all = absurd all
   rows_second (a ∷ row) (b ∷ others) (c ∷ words) many one two are all =
-      let join = (laws_of f.kind).joins_above f.width width a b (All-head (IsValue f) a row one)
-      (All-head (IsValue f) b others two) in (
+      let join = (laws_of f.kind).joins_above f.width width a b (All-head (IsFlowValue f) a row one)
+      (All-head (IsFlowValue f) b others two) in (
         join.second c (are 0) all.0,
-        rows_second row others words (omega (arith, many)) (All-tail (IsValue f) a row one)
-            (All-tail (IsValue f) b others two) (λ i. are (suc i)) all.1,
+        rows_second row others words (omega (arith, many)) (All-tail (IsFlowValue f) a row one)
+            (All-tail (IsFlowValue f) b others two) (λ i. are (suc i)) all.1,
       )
 
   module _ (words : List ℕ) (are : AreWords f.width words) where
     -- a join has the words of both
-    joined_first : (e s : Entry) → IsEntry f e → IsEntry f s → HasWords f e words → HasWords f (joined f e s) words
+    joined_first : (e s : Entry) → IsFlowEntry f e → IsFlowEntry f s → HasVariableWords f e words → HasVariableWords f
+        (joined_entries f e s) words
     joined_first None s one two has = absurd has
     joined_first (Some a) None one two has = has
     joined_first (Some a) (Some b) one two has = rows_first a b words one.values two.values are has
 
-    joined_second : (e s : Entry) → IsEntry f e → IsEntry f s → HasWords f s words → HasWords f (joined f e s) words
+    joined_second : (e s : Entry) → IsFlowEntry f e → IsFlowEntry f s → HasVariableWords f s words → HasVariableWords f
+        (joined_entries f e s) words
     joined_second None s one two has = has
     joined_second (Some a) None one two has = absurd has
     joined_second (Some a) (Some b) one two has =
         rows_second a b words (one.counted ∙ sym two.counted) one.values two.values are has
 
-    all_first : (e : Entry) (steps : List Entry) → IsEntry f e → All (IsEntry f) steps → HasWords f e words →
-        HasWords f (all_joined f e steps) words
+    all_first : (e : Entry) (steps : List Entry) → IsFlowEntry f e → All (IsFlowEntry f) steps → HasVariableWords f e
+        words →
+        HasVariableWords f (all_joined f e steps) words
     all_first e [] one all has = has
     all_first e (s ∷ steps) one all has =
-        let two = All-head (IsEntry f) s steps all in
-        all_first (joined f e s) steps (joined_entry f width e s one two) (All-tail (IsEntry f) s steps all)
+        let two = All-head (IsFlowEntry f) s steps all in
+        all_first (joined_entries f e s) steps (joined_entry f width e s one two) (All-tail (IsFlowEntry f) s steps all)
         (joined_first e s one two has)
 
 -- ---- rounds
@@ -141,70 +145,74 @@ module _ (f : Flow) (operations : List Operation) (are : AreOperations f operati
   goes_in = λ (e : Edge). e.to == n
 
   abbrev After : Entry → List Edge → Type 0
-  After e edges = HasWords f (all_joined f e (map step edges)) words
+  After e edges = HasVariableWords f (all_joined f e (map step edges)) words
 
   -- what the step of an edge has is kept by the edges after it
-  edges_keep : (e : Entry) (edges : List Edge) → IsEntry f e → All (CanFollow f operations) edges → HasWords f e words →
+  edges_keep : (e : Entry) (edges : List Edge) → IsFlowEntry f e → All (CanFollowEdge f operations) edges →
+      HasVariableWords f e words →
       After e (filter goes_in edges)
   edges_keep e edges one can has =
       all_first f are.flow.width words all_words e (map step (filter goes_in edges)) one
       (steps_of f operations are state is edges can n) has
 
   -- what the step of an edge to the node has, the node has after a round
-  edges_have : (e : Entry) (edges : List Edge) (k : ℕ) (d : Edge) → IsEntry f e → All (CanFollow f operations) edges →
-      k < length edges → (get_or edges k d).to ≡ n → HasWords f (step (get_or edges k d)) words →
+  edges_have : (e : Entry) (edges : List Edge) (k : ℕ) (d : Edge) → IsFlowEntry f e → All (CanFollowEdge f operations)
+      edges →
+      k < length edges → (get_or edges k d).to ≡ n → HasVariableWords f (step (get_or edges k d)) words →
       After e (filter goes_in edges)
   edges_have e [] k d one can below to has = absurd (omega arith)
   edges_have e (x ∷ edges) zero d one can below to has =
-      let here = All-head (CanFollow f operations) x edges can in
+      let here = All-head (CanFollowEdge f operations) x edges can in
       let two = edge_entry f operations are state is x here in
       subst (λ (b : Bool). After e (cond b (x ∷ filter goes_in edges) (filter goes_in edges))) (sym (eq-eqb x.to n to))
-      (edges_keep (joined f e (step x)) edges (joined_entry f are.flow.width e (step x) one two)
-      (All-tail (CanFollow f operations) x edges can)
+      (edges_keep (joined_entries f e (step x)) edges (joined_entry f are.flow.width e (step x) one two)
+      (All-tail (CanFollowEdge f operations) x edges can)
       (joined_second f are.flow.width words all_words e (step x) one two has))
   edges_have e (x ∷ edges) (suc k) d one can below to has =
-      let here = All-head (CanFollow f operations) x edges can in
-      let rest = All-tail (CanFollow f operations) x edges can in
+      let here = All-head (CanFollowEdge f operations) x edges can in
+      let rest = All-tail (CanFollowEdge f operations) x edges can in
       let two = edge_entry f operations are state is x here in
       elim (cases_Bool (x.to == n)) [
         | inl goes ↦
             subst (λ (b : Bool). After e (cond b (x ∷ filter goes_in edges) (filter goes_in edges))) (sym goes)
-            (edges_have (joined f e (step x)) edges k d (joined_entry f are.flow.width e (step x) one two) rest
+            (edges_have (joined_entries f e (step x)) edges k d (joined_entry f are.flow.width e (step x) one two) rest
             (omega arith) to has)
         | inr other ↦
             subst (λ (b : Bool). After e (cond b (x ∷ filter goes_in edges) (filter goes_in edges))) (sym other)
             (edges_have e edges k d one rest (omega arith) to has)
       ]
 
-  round_entry : n < f.nodes → IsEntry f (entry_at state n)
+  round_entry : n < f.nodes → IsFlowEntry f (entry_at state n)
   round_entry below = is.entries n None (omega (arith, is.counted))
 
   -- a round keeps what a node has, and adds what the step of an edge to it has
-  pub round_keeps : n < f.nodes → HasWords f (entry_at state n) words →
-      HasWords f (entry_at (round f operations state) n) words
+  pub round_keeps : n < f.nodes → HasVariableWords f (entry_at state n) words →
+      HasVariableWords f (entry_at (round f operations state) n) words
   round_keeps below has =
-      subst (λ (e : Entry). HasWords f e words) (sym (round-at f operations state 0 f.nodes n below))
-      (subst (λ (m : ℕ). HasWords f (entry_after f operations state m) words) (let z : n ≡ 0 + n = omega arith in z)
+      subst (λ (e : Entry). HasVariableWords f e words) (sym (round-at f operations state 0 f.nodes n below))
+      (subst (λ (m : ℕ). HasVariableWords f (entry_after f operations state m) words)
+      (let z : n ≡ 0 + n = omega arith in z)
       (edges_keep (entry_at state n) f.edges (round_entry below) (all_follow f operations are) has))
 
-  pub round_has : (e : Edge) → Contains f.edges e → e.to ≡ n → n < f.nodes → HasWords f (step e) words →
-      HasWords f (entry_at (round f operations state) n) words
+  pub round_has : (e : Edge) → Contains f.edges e → e.to ≡ n → n < f.nodes → HasVariableWords f (step e) words →
+      HasVariableWords f (entry_at (round f operations state) n) words
   round_has e within to below has =
       let here : get_or f.edges within.0 e ≡ e = within.2 in
-      subst (λ (e : Entry). HasWords f e words) (sym (round-at f operations state 0 f.nodes n below))
-      (subst (λ (m : ℕ). HasWords f (entry_after f operations state m) words) (let z : n ≡ 0 + n = omega arith in z)
+      subst (λ (e : Entry). HasVariableWords f e words) (sym (round-at f operations state 0 f.nodes n below))
+      (subst (λ (m : ℕ). HasVariableWords f (entry_after f operations state m) words)
+      (let z : n ≡ 0 + n = omega arith in z)
       (edges_have (entry_at state n) f.edges within.0 e (round_entry below) (all_follow f operations are) within.1
       (ap (λ (x : Edge). x.to) here ∙ to)
-      (subst (λ (x : Edge). HasWords f (step x) words) (sym here) has)))
+      (subst (λ (x : Edge). HasVariableWords f (step x) words) (sym here) has)))
 
 -- ---- steps
 
 -- what a step has, where an edge leads there
 record Has (f : Flow) (e : Entry) (words : List ℕ) : Type 0 where
-  members : HasWords f e words
+  members : HasVariableWords f e words
   are : AreWordsOf f words
 
-has_set : (f : Flow) (row : Row) (before after : List ℕ) (a c : ℕ) (value : List ℕ) → AreWordsOf f before →
+has_set : (f : Flow) (row : FlowRow) (before after : List ℕ) (a c : ℕ) (value : List ℕ) → AreWordsOf f before →
     AllZip (IsMemberOf f) row before → c < 2 ^ f.width → IsMemberOf f value c → after ≡ slice_set before a c →
     Has f (Some (slice_set row a value)) after
 has_set f row before after a c value are all below member e =
@@ -213,18 +221,18 @@ has_set f row before after a c value are all below member e =
       are = set_tuple f before a c below are;
     })
 
-tidied_has : (f : Flow) (row : Row) (before after : List ℕ) (a c : ℕ) (raw : List ℕ) (t : Option (List ℕ)) →
+tidied_has : (f : Flow) (row : FlowRow) (before after : List ℕ) (a c : ℕ) (raw : List ℕ) (t : Option (List ℕ)) →
     AreWordsOf f before → AllZip (IsMemberOf f) row before → c < 2 ^ f.width → IsMemberOf f raw c →
     after ≡ slice_set before a c →
     MatchOption t ((d : ℕ) → d < 2 ^ f.width → ¬ IsMemberOf f raw d)
-    (λ v. IsValue f v × ((d : ℕ) → d < 2 ^ f.width → IsMemberOf f raw d → IsMemberOf f v d)) →
+    (λ v. IsFlowValue f v × ((d : ℕ) → d < 2 ^ f.width → IsMemberOf f raw d → IsMemberOf f v d)) →
     Has f (option_map (slice_set row a) t) after
 tidied_has f row before after a c raw None are all below member e h = absurd (h c below member)
 tidied_has f row before after a c raw (Some v) are all below member e h =
     has_set f row before after a c v are all below (h.1 c below member) e
 
 -- the value of an operation that may be used at words is a word, and a member of its transformer's result
-module _ (f : Flow) (o : Operation) (from : List ℕ) (row : Row) (before : List ℕ) (is : IsRow f row)
+module _ (f : Flow) (o : Operation) (from : List ℕ) (row : FlowRow) (before : List ℕ) (is : IsFlowRow f row)
     (can : CanApply f o from) (are : AreWordsOf f before) (all : AllZip (IsMemberOf f) row before) where
   abbrev IsOwnMember : List ℕ → ℕ → Type 0
   IsOwnMember = IsMember (question_of o.problem)
@@ -265,8 +273,8 @@ module _ (f : Flow) (o : Operation) (from : List ℕ) (row : Row) (before : List
       (subst (λ (w : ℕ). (meaning_of o.problem.kind).Member w raw c) can.width member)
 
 module _ (f : Flow) (operations : List Operation) (are : AreOperations f operations) (sound : AllSound operations) where
-  applied_has : (i a : ℕ) (from : List ℕ) (row : Row) (before after : List ℕ) (o : Operation) →
-      CanAct f operations (Apply i a from) → slice_get operations i ≡ Some o → IsRow f row → AreWordsOf f before →
+  applied_has : (i a : ℕ) (from : List ℕ) (row : FlowRow) (before after : List ℕ) (o : Operation) →
+      CanAct f operations (Apply i a from) → slice_get operations i ≡ Some o → IsFlowRow f row → AreWordsOf f before →
       AllZip (IsMemberOf f) row before → Applies (Some o) a (at 0 before from) before after →
       Has f (option_map (slice_set row a) (applied f (Some o) (at [] row from))) after
   applied_has i a from row before after o act here is words all moves =
@@ -281,7 +289,7 @@ module _ (f : Flow) (operations : List Operation) (are : AreOperations f operati
       (flow_member f o from row before is can words all raw c member) moves.1
       ((laws_of f.kind).tidies f.width are.flow.width raw (result_tuple f o from row is can))
 
-  step_has : (action : Action) (row : Row) (before after : List ℕ) → CanAct f operations action → IsRow f row →
+  step_has : (action : Action) (row : FlowRow) (before after : List ℕ) → CanAct f operations action → IsFlowRow f row →
       AreWordsOf f before → AllZip (IsMemberOf f) row before → Moves f operations action before after →
       Has f (stepped f operations action row) after
   step_has Skip row before after act is words all moves =
@@ -306,7 +314,8 @@ module _ (f : Flow) (operations : List Operation) (are : AreOperations f operati
       (applied_has i a from row before after o.0 act o.1 is words all
       (subst (λ (r : Option Operation). Applies r a (at 0 before from) before after) o.1 moves))
 
-  from_entry_has : (action : Action) (e : Entry) (before after : List ℕ) → CanAct f operations action → IsEntry f e →
+  from_entry_has : (action : Action) (e : Entry) (before after : List ℕ) → CanAct f operations action → IsFlowEntry f e
+      →
       Has f e before → Moves f operations action before after → Has f (from_entry f operations action e) after
   from_entry_has action None before after act is has moves = absurd has.members
   from_entry_has action (Some row) before after act is has moves =
@@ -316,7 +325,7 @@ module _ (f : Flow) (operations : List Operation) (are : AreOperations f operati
 
   -- each state has the words of a run's first point
   starts_have : (n : ℕ) (words : List ℕ) → AreWordsOf f words →
-      HasWords f (entry_at (state_after f operations n) 0) words
+      HasVariableWords f (entry_at (state_after f operations n) 0) words
   starts_have zero words is =
       top_zip f are.flow.width f.variables words is.counted is.words
   starts_have (suc n) words is =
@@ -332,15 +341,15 @@ module _ (f : Flow) (operations : List Operation) (are : AreOperations f operati
         let start = starts_have is.rounds p.words r.1 in
         record {
           members =
-              subst (λ (n : ℕ). HasWords f (entry_at table n) p.words) (sym r.0)
-              (subst (λ (s : State). HasWords f (entry_at s 0) p.words) (sym is.reached) start);
+              subst (λ (n : ℕ). HasVariableWords f (entry_at table n) p.words) (sym r.0)
+              (subst (λ (s : State). HasVariableWords f (entry_at s 0) p.words) (sym is.reached) start);
           are = r.1;
         }
     run_has q (p ∷ run) r =
         let e = r.0.0 in
         let within = r.0.1 in
         let along = r.0.2 in
-        let can = All-contains (CanFollow f operations) f.edges e (all_follow f operations are) within in
+        let can = All-contains (CanFollowEdge f operations) f.edges e (all_follow f operations are) within in
         let before = run_has p run r.1 in
         let here : Has f (entry_at table e.from) p.words =
         subst (λ (n : ℕ). Has f (entry_at table n) p.words) along.from before in
@@ -351,7 +360,7 @@ module _ (f : Flow) (operations : List Operation) (are : AreOperations f operati
         let below = subst (λ (n : ℕ). n < f.nodes) to can.to in
         record {
           members =
-              subst (λ (s : State). HasWords f (entry_at s q.node) q.words) is.stays
+              subst (λ (s : State). HasVariableWords f (entry_at s q.node) q.words) is.stays
               (round_has f operations are table table_state q.words after.are.words q.node e within to below
               after.members);
           are = after.are;

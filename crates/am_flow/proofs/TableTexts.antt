@@ -4,7 +4,7 @@ use Rattle.std.proofs.Common.{decimal, flat_map, refl, sym, ap, ◌∙◌, subst
 use Rattle.std.proofs.lemmas.List.{drop_more, length-take-le, take-append-drop, take_more, take_rest}
 use Rattle.am_syntax.proofs.Laws.{grew_first, grew_next}
 use Rattle.am_syntax.specs.Canonical.{GrewToward}
-use Rattle.am_flow.specs.States.{Entry, Row, State}
+use Rattle.am_flow.specs.States.{Entry, FlowRow, State}
 use Rattle.am_flow.specs.Texts.{entry_text, lines_from, row_text, value_text}
 
 -- the first field, and the others after commas
@@ -21,7 +21,7 @@ value_text-first (c ∷ cs) some =
     ∙ ap (λ (ds : List ℕ). decimal c ++ flat_map (λ d. 44 ∷ decimal d) ds) (sym (take_rest (c ∷ cs) 1))
 
 -- each value after a space
-pub row_text-each : (row : Row) → row_text row ≡ flat_map (λ a. 32 ∷ value_text a) row
+pub row_text-each : (row : FlowRow) → row_text row ≡ flat_map (λ a. 32 ∷ value_text a) row
 row_text-each [] = refl
 row_text-each (a ∷ row) = ap (λ (bs : List ℕ). 32 ∷ (value_text a ++ bs)) (row_text-each row)
 

@@ -82,7 +82,7 @@ signature_of o =
     record { width = o.problem.width; inputs = o.problem.inputs; kind = o.problem.kind; best = true }
 
 -- an operation that a flow can be run with
-pub record IsOperation (f : Flow) (i : ℕ) (o : Operation) : Type 0 where
+pub record IsFlowOperation (f : Flow) (i : ℕ) (o : Operation) : Type 0 where
   pub fits : Fits f i (signature_of o)
   pub problem : IsProblem o.problem
   pub transformer : IsTransformer o.problem o.terms
@@ -90,4 +90,4 @@ pub record IsOperation (f : Flow) (i : ℕ) (o : Operation) : Type 0 where
 -- a flow, and operations that it can be run with
 pub record AreOperations (f : Flow) (operations : List Operation) : Type 0 where
   pub flow : IsFlow (length operations) f
-  pub each : (i : ℕ) (o : Operation) → slice_get operations i ≡ Some o → IsOperation f i o
+  pub each : (i : ℕ) (o : Operation) → slice_get operations i ≡ Some o → IsFlowOperation f i o

@@ -1,12 +1,10 @@
 -- The grammar of a flow's text, line by line.
-use Rattle.std.specs.Prelude.{ℕ, ◌-◌, ◌^◌, Bool, false, nat_lt, List, [], ◌∷◌, length, codes, ◌⊎◌}
+use Rattle.std.specs.Prelude.{ℕ, ◌-◌, ◌^◌, nat_lt, List, [], ◌∷◌, length, codes, ◌⊎◌}
 use Rattle.std.proofs.Common.{inl, inr}
-use Rattle.am_problem.specs.Grammar.{domain}
+use Rattle.am_problem.specs.Grammar.{keyed_domain}
 use Rattle.am_problem.specs.declared.kind.Kind.{Kind}
-use Rattle.am_syntax.specs.Numerals.{is_digits}
-use Rattle.am_syntax.specs.Pieces.{◌▹◌, Piece, below, choice, closed, key, keyed, next_is, number, one_more, repeat}
-use Rattle.am_syntax.specs.Pieces.{seen_as}
-use Rattle.am_syntax.specs.Readers.{Words}
+use Rattle.am_syntax.specs.Pieces.{◌▹◌, Piece, below, choice, closed, is_number_next, key, keyed, keyed_number}
+use Rattle.am_syntax.specs.Pieces.{next_is, number, one_more, repeat, seen_as, width}
 use Rattle.am_flow.specs.Flows.{Flow}
 use Rattle.am_flow.specs.declared.flow.Action.{Action}
 use Rattle.am_flow.specs.declared.flow.Action.TheVariants.{Any, Apply, Copy, Set, Skip}
@@ -15,23 +13,18 @@ use Rattle.am_flow.specs.declared.flow.Edge.{Edge}
 -- ---- actions
 
 -- what the lines before say of the edges: the width, and how many operations, variables and nodes there are
-pub record Shape : Type 0 where
+pub record FlowShape : Type 0 where
   pub width : ℕ
   pub operations : ℕ
   pub variables : ℕ
   pub nodes : ℕ
 
 -- the number of a variable
-abbrev pub variable : Shape → Piece ℕ
+abbrev pub variable : FlowShape → Piece ℕ
 variable s = below 0 s.variables
 
--- whether the next token is a row of digits
-abbrev pub is_number_next : Words → Bool
-is_number_next [] = false
-is_number_next (v ∷ vs) = is_digits v
-
 -- apply I A B { B }
-abbrev pub application : Shape → Piece (ℕ × (ℕ × (ℕ × List ℕ)))
+abbrev pub application : FlowShape → Piece (ℕ × (ℕ × (ℕ × List ℕ)))
 application s =
     below 0 s.operations ▹ λ _. variable s ▹ λ _. variable s ▹ λ _. repeat is_number_next (λ _. variable s)
 
@@ -48,7 +41,7 @@ action_of (inr (inr (inr (inl (a, b))))) = Copy a b
 action_of (inr (inr (inr (inr (i, (a, (b, more))))))) = Apply i a (b ∷ more)
 
 -- an application to no variable is that to one that isn't there
-abbrev pub action_parts : Shape → Action → ActionParts
+abbrev pub action_parts : FlowShape → Action → ActionParts
 action_parts s Skip = inl tt
 action_parts s (Any a) = inr (inl a)
 action_parts s (Set a c) = inr (inr (inl (a, c)))
@@ -57,7 +50,7 @@ action_parts s (Apply i a []) = inr (inr (inr (inr (i, (a, (s.variables, [])))))
 action_parts s (Apply i a (b ∷ more)) = inr (inr (inr (inr (i, (a, (b, more))))))
 
 -- skip, any A, set A C, copy A B, or apply I A B { B }
-unfoldable pub action : Shape → Piece Action
+unfoldable pub action : FlowShape → Piece Action
 action s = seen_as action_of (action_parts s) (
     choice (next_is (codes "skip")) (key (codes "skip")) (
     choice (next_is (codes "any")) (keyed (codes "any") (variable s)) (
@@ -76,16 +69,16 @@ abbrev pub edge_parts : Edge → ℕ × (ℕ × Action)
 edge_parts e = (e.from, (e.to, e.action))
 
 -- edge FROM TO ACTION
-unfoldable pub edge_line : Shape → Piece Edge
+unfoldable pub edge_line : FlowShape → Piece Edge
 edge_line s =
     seen_as edge_of edge_parts (keyed (codes "edge") (below 0 s.nodes ▹ λ _. below 0 s.nodes ▹ λ _. action s))
 
 -- an edge after others, of which there may be one more
-unfoldable pub edge : Shape → List Edge → Piece Edge
+unfoldable pub edge : FlowShape → List Edge → Piece Edge
 edge s seen = one_more (nat_lt (length seen) 256) (edge_line s)
 
 -- the edges of a flow, one line each
-unfoldable pub edges : Shape → Piece (List Edge)
+unfoldable pub edges : FlowShape → Piece (List Edge)
 edges s = repeat (next_is (codes "edge")) (edge s)
 
 -- ---- the whole
@@ -106,10 +99,10 @@ flow_parts f = (1, (f.width, (f.kind, (f.variables, (f.nodes, f.edges)))))
 -- a flow over so many operations, up to its end
 unfoldable pub flow : ℕ → Piece Flow
 flow operations = seen_as flow_of flow_parts (
-    keyed (codes "flow") (number 1 1) ▹ λ _.
-    keyed (codes "width") (number 2 8) ▹ λ w.
-    keyed (codes "domain") domain ▹ λ _.
-    keyed (codes "variables") (number 1 8) ▹ λ v.
-    keyed (codes "nodes") (number 1 64) ▹ λ m.
+    keyed_number (codes "flow") 1 1 ▹ λ _.
+    width ▹ λ w.
+    keyed_domain ▹ λ _.
+    keyed_number (codes "variables") 1 8 ▹ λ v.
+    keyed_number (codes "nodes") 1 64 ▹ λ m.
     closed (codes "end")
     (edges (record { width = w; operations = operations; variables = v; nodes = m })))

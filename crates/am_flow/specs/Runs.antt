@@ -44,14 +44,14 @@ IsRun f operations (q ∷ p ∷ run) =
     ((e : Edge) × Contains f.edges e × GoesAlong f operations e p q) × IsRun f operations (p ∷ run)
 
 -- each variable's word is a member of its value
-abbrev pub HasWords : Flow → Entry → List ℕ → Type 0
-HasWords f None words = ⊥
-HasWords f (Some row) words = AllZip (λ a c. (meaning_of f.kind).Member f.width a c) row words
+abbrev pub HasVariableWords : Flow → Entry → List ℕ → Type 0
+HasVariableWords f None words = ⊥
+HasVariableWords f (Some row) words = AllZip (λ a c. (meaning_of f.kind).Member f.width a c) row words
 
 -- the words of each run are members of the entry at its last node
 abbrev pub CoversRuns : Flow → List Operation → State → Type 0
 CoversRuns f operations table = (p : Point) (run : List Point) → IsRun f operations (p ∷ run) →
-    HasWords f (entry_at table p.node) p.words
+    HasVariableWords f (entry_at table p.node) p.words
 
 -- all transformers are sound
 abbrev pub AllSound : List Operation → Type 0

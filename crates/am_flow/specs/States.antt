@@ -13,12 +13,12 @@ use Rattle.am_flow.specs.declared.flow.Edge.{Edge}
 -- ---- rows and entries
 
 -- an abstract value for each variable
-abbrev pub Row : Type 0
-Row = List (List ℕ)
+abbrev pub FlowRow : Type 0
+FlowRow = List (List ℕ)
 
 -- what is known at a node: a row, or that nothing gets there
 abbrev pub Entry : Type 0
-Entry = Option Row
+Entry = Option FlowRow
 
 -- an entry for each node
 abbrev pub State : Type 0
@@ -29,16 +29,16 @@ abbrev pub at : {A : Type 0} → A → List A → List ℕ → List A
 at other items places = map (λ i. slice_index_or items i other) places
 
 -- a row that joins the values of both, variable by variable
-abbrev pub joined_rows : Flow → Row → Row → Row
+abbrev pub joined_rows : Flow → FlowRow → FlowRow → FlowRow
 joined_rows f [] others = []
 joined_rows f (a ∷ row) [] = a ∷ row
 joined_rows f (a ∷ row) (b ∷ others) = (abstraction_of f.kind).join f.width a b ∷ joined_rows f row others
 
 -- a join with nothing is the other
-abbrev pub joined : Flow → Entry → Entry → Entry
-joined f None e = e
-joined f (Some a) None = Some a
-joined f (Some a) (Some b) = Some (joined_rows f a b)
+abbrev pub joined_entries : Flow → Entry → Entry → Entry
+joined_entries f None e = e
+joined_entries f (Some a) None = Some a
+joined_entries f (Some a) (Some b) = Some (joined_rows f a b)
 
 -- ---- steps
 
@@ -48,7 +48,7 @@ applied f None inputs = None
 applied f (Some o) inputs = (abstraction_of f.kind).tidy f.width (results (question_of o.problem) o.terms inputs)
 
 -- what an action makes of a row: one value is another, or nothing gets there
-abbrev pub stepped : Flow → List Operation → Action → Row → Entry
+abbrev pub stepped : Flow → List Operation → Action → FlowRow → Entry
 stepped f operations Skip row = Some row
 stepped f operations (Any a) row = Some (slice_set row a ((abstraction_of f.kind).top f.width))
 stepped f operations (Set a c) row = Some (slice_set row a ((abstraction_of f.kind).of_word f.width c))
@@ -74,7 +74,7 @@ edge_step f operations state e = from_entry f operations e.action (entry_at stat
 -- an entry joined with others, one after another
 abbrev pub all_joined : Flow → Entry → List Entry → Entry
 all_joined f e [] = e
-all_joined f e (s ∷ steps) = all_joined f (joined f e s) steps
+all_joined f e (s ∷ steps) = all_joined f (joined_entries f e s) steps
 
 -- a node's entry after a round: the one before it, joined with the steps of the node's edges in their order
 abbrev pub entry_after : Flow → List Operation → State → ℕ → Entry

@@ -9,8 +9,8 @@ abbrev pub seen : Inside → Flow
 seen f = record { width = f.width; kind = f.kind; variables = f.variables; nodes = f.nodes; edges = f.edges }
 
 -- it is within the limits, over some number of operations
-abbrev pub IsInside : Inside → Type 0
-IsInside f = ∥ ((n : ℕ) × IsFlow n (seen f)) ∥₁
+abbrev pub IsStoredFlow : Inside → Type 0
+IsStoredFlow f = ∥ ((n : ℕ) × IsFlow n (seen f)) ∥₁
 
 -- a problem and a transformer of it
 abbrev pub seen_operation : StoredOperation → Operation

@@ -3,7 +3,7 @@ use Rattle.std.specs.Prelude.{ℕ, suc, ◌<◌, ◌^◌, List, [], ◌∷◌, �
 use Rattle.am_syntax.specs.Exact.{IsExact, always}
 use Rattle.am_flow.specs.Flows.{Flow, IsFlow}
 use Rattle.am_flow.specs.Grammar.{flow}
-use Rattle.am_flow.specs.States.{Entry, Row, State}
+use Rattle.am_flow.specs.States.{Entry, FlowRow, State}
 
 -- ---- flows
 
@@ -25,7 +25,7 @@ value_text (c ∷ []) = decimal c
 value_text (c ∷ d ∷ cs) = decimal c ++ 44 ∷ value_text (d ∷ cs)
 
 -- each value after a space
-abbrev pub row_text : Row → List ℕ
+abbrev pub row_text : FlowRow → List ℕ
 row_text [] = []
 row_text (a ∷ row) = 32 ∷ (value_text a ++ row_text row)
 

@@ -1,23 +1,23 @@
 //! What the edges of a flow do, as text.
 
 ghost use Rattle.std.specs.Prelude.{◌≡◌, ◌∷◌, ◌-◌, ◌^◌, IfOk, codes};
-ghost use Rattle.am_syntax.specs.Pieces.{◌▹◌, keyed, number, repeat};
-ghost use Rattle.am_syntax.specs.Readers.{Gives, Makes};
-ghost use Rattle.am_flow.specs.Grammar.{action, is_number_next, variable};
-ghost use Rattle.am_flow.specs.inside.Shapes.{IsShape, apply, seen_shape};
+ghost use Rattle.am_syntax.specs.Pieces.{◌▹◌, is_number_next, keyed, number, repeat};
+ghost use Rattle.am_syntax.specs.Readers.{GivesRead, Makes};
+ghost use Rattle.am_flow.specs.Grammar.{action, variable};
+ghost use Rattle.am_flow.specs.inside.Shapes.{IsFlowShape, apply, seen_shape};
 
 use crate::flow::{Action, Variables};
 use crate::shape::{Shape, take_index};
 use am_bv::Row;
 use am_syntax::{
-    Cause, Failure, Item, Listed, is_digits, is_next, read_list, take_key, take_number,
+    Cause, Failure, Item, Listed, is_next, is_number_next, read_list, take_key, take_number,
 };
 use am_text::Cursor;
 use std::alloc::{AllocError, Global};
 
 /// Takes a word.
 fn take_word(text: &mut Cursor<'_>, shape: &Shape) -> Result<u8, Cause>
-    ensures { Gives (λ c. c) result text.old text.new (number 0 (2 ^ shape.now.width - 1)).read }
+    ensures { GivesRead (λ c. c) result text.old text.new (number 0 (2 ^ shape.now.width - 1)).read }
 {
     let word = take_number(text, 0, u64::from(shape.width.mask()))?;
     Ok(word as u8)
@@ -25,7 +25,7 @@ fn take_word(text: &mut Cursor<'_>, shape: &Shape) -> Result<u8, Cause>
 
 /// `any` and a variable.
 fn take_any(text: &mut Cursor<'_>, shape: &Shape) -> Result<u32, Cause>
-    ensures { Gives (λ a. a) result text.old text.new (keyed (codes "any") (variable (seen_shape shape.now))).read }
+    ensures { GivesRead (λ a. a) result text.old text.new (keyed (codes "any") (variable (seen_shape shape.now))).read }
 {
     take_key(text, b"any")?;
     take_index(text, shape.variables)
@@ -35,7 +35,7 @@ fn take_any(text: &mut Cursor<'_>, shape: &Shape) -> Result<u32, Cause>
 fn take_set(text: &mut Cursor<'_>, shape: &Shape) -> Result<(u32, u8), Cause>
     ensures { let s = seen_shape shape.now in
         let set = keyed (codes "set") (variable s ▹ λ _. number 0 (2 ^ s.width - 1)) in
-        Gives (λ x. x) result text.old text.new set.read }
+        GivesRead (λ x. x) result text.old text.new set.read }
 {
     take_key(text, b"set")?;
     let variable = take_index(text, shape.variables)?;
@@ -47,7 +47,7 @@ fn take_set(text: &mut Cursor<'_>, shape: &Shape) -> Result<(u32, u8), Cause>
 fn take_copy(text: &mut Cursor<'_>, shape: &Shape) -> Result<(u32, u32), Cause>
     ensures { let s = seen_shape shape.now in
         let copy = keyed (codes "copy") (variable s ▹ λ _. variable s) in
-        Gives (λ x. x) result text.old text.new copy.read }
+        GivesRead (λ x. x) result text.old text.new copy.read }
 {
     take_key(text, b"copy")?;
     let to = take_index(text, shape.variables)?;
@@ -82,21 +82,18 @@ impl<'a> Item<'a> for More {
 }
 
 impl<'a> Listed<'a> for More {
-    ghost use Rattle.am_flow.specs.Grammar.{is_number_next};
+    ghost use Rattle.am_syntax.specs.Pieces.{is_number_next};
 
     ghost goes = { is_number_next };
 
     fn comes(&self, text: &Cursor<'a>) -> bool {
-        match text.peek() {
-            Some(token) => is_digits(token.text),
-            None => false,
-        }
+        is_number_next(text)
     }
 }
 
 /// More variables, as long as a number comes.
 fn read_more(alloc: Global, text: &mut Cursor<'_>, shape: &Shape) -> Result<Variables, Failure>
-    requires { IsShape (seen_shape shape.now) }
+    requires { IsFlowShape (seen_shape shape.now) }
     ensures { let s = seen_shape shape.now in
         Makes (λ more. more) result text.old text.new (repeat is_number_next (λ _. variable s)).read }
 {
@@ -117,7 +114,7 @@ fn before(alloc: Global, first: u32, more: &[u32]) -> Result<Variables, AllocErr
 
 /// `apply`, an operation, a variable, and the variables that it is applied to.
 fn read_apply(alloc: Global, text: &mut Cursor<'_>, shape: &Shape) -> Result<Action, Failure>
-    requires { IsShape (seen_shape shape.now) }
+    requires { IsFlowShape (seen_shape shape.now) }
     ensures { Makes (λ a. a) result text.old text.new (apply (seen_shape shape.now)) }
 {
     take_key(text, b"apply")?;
@@ -136,7 +133,7 @@ fn read_apply(alloc: Global, text: &mut Cursor<'_>, shape: &Shape) -> Result<Act
 /// What an edge does.
 #[tactic(auto, unfolding(crate::specs::Grammar::action))]
 pub fn read_action(alloc: Global, text: &mut Cursor<'_>, shape: &Shape) -> Result<Action, Failure>
-    requires { IsShape (seen_shape shape.now) }
+    requires { IsFlowShape (seen_shape shape.now) }
     ensures { Makes (λ a. a) result text.old text.new (action (seen_shape shape.now)).read }
 {
     if is_next(text, b"skip") {

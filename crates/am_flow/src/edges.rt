@@ -2,7 +2,7 @@
 
 ghost use Rattle.am_syntax.specs.Readers.{Makes};
 ghost use Rattle.am_flow.specs.Grammar.{edge, edge_line, edges};
-ghost use Rattle.am_flow.specs.inside.Shapes.{IsShape, seen_shape};
+ghost use Rattle.am_flow.specs.inside.Shapes.{IsFlowShape, seen_shape};
 
 use crate::actions::read_action;
 use crate::flow::{Edge, Edges};
@@ -15,7 +15,7 @@ use std::alloc::Global;
 /// `edge`, two nodes and an action.
 #[tactic(auto, unfolding(crate::specs::Grammar::edge_line))]
 fn read_edge_line(alloc: Global, text: &mut Cursor<'_>, shape: &Shape) -> Result<Edge, Failure>
-    requires { IsShape (seen_shape shape.now) }
+    requires { IsFlowShape (seen_shape shape.now) }
     ensures { Makes (λ e. e) result text.old text.new (edge_line (seen_shape shape.now)).read }
 {
     take_key(text, b"edge")?;
@@ -33,7 +33,7 @@ fn read_edge(
     shape: &Shape,
     seen: &[Edge],
 ) -> Result<Edge, Failure>
-    requires { IsShape (seen_shape shape.now) }
+    requires { IsFlowShape (seen_shape shape.now) }
     ensures { Makes (λ e. e) result text.old text.new (edge (seen_shape shape.now) seen.now).read }
 {
     if seen.len() < MOST_EDGES {
@@ -53,7 +53,7 @@ struct EdgeLines {
 impl<'a> Item<'a> for EdgeLines {
     ghost use Rattle.am_flow.specs.declared.flow.Edge.{Edge as Data};
     ghost use Rattle.am_flow.specs.Grammar.{edge};
-    ghost use Rattle.am_flow.specs.inside.Shapes.{IsShape, seen_shape};
+    ghost use Rattle.am_flow.specs.inside.Shapes.{IsFlowShape, seen_shape};
 
     type Value = Edge;
 
@@ -63,7 +63,7 @@ impl<'a> Item<'a> for EdgeLines {
 
     ghost reads = { λ own seen. (edge (seen_shape own.shape) seen).read };
 
-    ghost can = { λ own. IsShape (seen_shape own.shape) };
+    ghost can = { λ own. IsFlowShape (seen_shape own.shape) };
 
     fn read(&self, alloc: Global, text: &mut Cursor<'a>, seen: &[Edge]) -> Result<Edge, Failure> {
         read_edge(alloc, text, &self.shape, seen)
@@ -84,7 +84,7 @@ impl<'a> Listed<'a> for EdgeLines {
 /// The edges.
 #[tactic(auto, unfolding(crate::specs::Grammar::edges))]
 pub fn read_edges(alloc: Global, text: &mut Cursor<'_>, shape: &Shape) -> Result<Edges, Failure>
-    requires { IsShape (seen_shape shape.now) }
+    requires { IsFlowShape (seen_shape shape.now) }
     ensures { Makes (λ es. es) result text.old text.new (edges (seen_shape shape.now)).read }
 {
     read_list(alloc, text, &EdgeLines { shape: *shape })

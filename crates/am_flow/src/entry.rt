@@ -1,8 +1,8 @@
 //! What is known at the nodes of a flow.
 
 ghost use Rattle.std.specs.Prelude.{◌≡◌, ◌↔◌, IfOk, IsTrue, Some};
-ghost use Rattle.am_flow.specs.States.{joined, joined_rows};
-ghost use Rattle.am_flow.specs.inside.Rows.{IsEntry, IsRow};
+ghost use Rattle.am_flow.specs.States.{joined_entries, joined_rows};
+ghost use Rattle.am_flow.specs.inside.Rows.{IsFlowEntry, IsFlowRow};
 
 use crate::flow::Flow;
 use crate::stepped::Stepped;
@@ -62,8 +62,8 @@ pub fn are_same(entries: &[Entry], others: &[Entry]) -> bool
 
 /// A row that joins the values of both, variable by variable.
 fn joined_rows(flow: &Flow, row: Values, other: &Stepped<'_>) -> Values
-    requires row { IsRow flow.now row }
-    requires other { IsRow flow.now other.now }
+    requires row { IsFlowRow flow.now row }
+    requires other { IsFlowRow flow.now other.now }
     ensures { result ≡ joined_rows flow.now row other.now }
 {
     let (w, kind) = (flow.width(), flow.kind());
@@ -82,9 +82,9 @@ pub fn joined(
     entry: Entry,
     other: &Stepped<'_>,
 ) -> Result<Values, AllocError>
-    requires entry { IsEntry flow.now entry }
-    requires other { IsRow flow.now other.now }
-    ensures { IfOk result (λ row. Some row ≡ joined flow.now entry (Some other.now)) }
+    requires entry { IsFlowEntry flow.now entry }
+    requires other { IsFlowRow flow.now other.now }
+    ensures { IfOk result (λ row. Some row ≡ joined_entries flow.now entry (Some other.now)) }
 {
     match entry {
         None => other.copy(alloc),

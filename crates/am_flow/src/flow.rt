@@ -56,11 +56,11 @@ impl Model for Flow {
 
     ghost Value = { Data };
 
-    ghost use Rattle.am_flow.specs.Stored.{IsInside, seen};
+    ghost use Rattle.am_flow.specs.Stored.{IsStoredFlow, seen};
 
     ghost view = { seen };
 
-    ghost invariant = { IsInside };
+    ghost invariant = { IsStoredFlow };
 }
 
 impl Flow {

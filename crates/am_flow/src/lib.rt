@@ -21,7 +21,6 @@ mod analysis;
 mod edges;
 mod entry;
 mod flow;
-mod head;
 mod limits;
 mod operation;
 mod printing;

@@ -8,10 +8,10 @@ ghost use Rattle.am_flow.specs.Grammar.{flow};
 
 use crate::edges::read_edges;
 use crate::flow::Flow;
-use crate::head::{take_keyed_domain, take_keyed_number, take_width};
 use crate::limits::{MOST_NODES, MOST_VARIABLES};
 use crate::shape::Shape;
-use am_syntax::{Failure, ReadError, follow, placed, take_key};
+use am_problem::take_keyed_domain;
+use am_syntax::{Failure, ReadError, follow, placed, take_key, take_keyed_number, take_width};
 use am_text::Cursor;
 use std::alloc::Global;
 

@@ -5,7 +5,7 @@ ghost use Rattle.am_flow.specs.Flows.{AreOperations};
 ghost use Rattle.am_flow.specs.States.{first_state, round};
 ghost use Rattle.am_flow.specs.Stored.{seen_operations};
 ghost use Rattle.am_flow.specs.inside.Rows.{IsState};
-ghost use Rattle.am_flow.specs.inside.Steps.{CanFollow, JoinsStep};
+ghost use Rattle.am_flow.specs.inside.Steps.{CanFollowEdge, JoinsStep};
 
 use crate::entry::{Entry, copied, joined};
 use crate::flow::{Edge, Flow};
@@ -45,7 +45,7 @@ fn join_step(
     requires operations { AreOperations flow.now (seen_operations operations.now) }
     requires before { IsState flow.now before.now }
     requires after { IsState flow.now after.old }
-    requires edge { CanFollow flow.now (seen_operations operations.now) edge.now }
+    requires edge { CanFollowEdge flow.now (seen_operations operations.now) edge.now }
     ensures { OnOk result
         (JoinsStep flow.now (seen_operations operations.now) before.now edge.now after.old after.new) }
 {

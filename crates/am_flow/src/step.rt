@@ -4,8 +4,8 @@ ghost use Rattle.std.specs.Prelude.{◌≡◌, ◌≤◌, ◌<◌, All, Some, []
 ghost use Rattle.am_flow.specs.Flows.{AreOperations};
 ghost use Rattle.am_flow.specs.States.{applied, at, edge_step, stepped};
 ghost use Rattle.am_flow.specs.Stored.{seen_operation, seen_operations};
-ghost use Rattle.am_flow.specs.inside.Rows.{IsRow, IsState};
-ghost use Rattle.am_flow.specs.inside.Steps.{CanAct, CanApply, CanFollow};
+ghost use Rattle.am_flow.specs.inside.Rows.{IsFlowRow, IsState};
+ghost use Rattle.am_flow.specs.inside.Steps.{CanAct, CanApply, CanFollowEdge};
 
 use crate::entry::Entry;
 use crate::flow::{Action, Edge, Flow};
@@ -24,7 +24,7 @@ pub fn edge_step<'a>(
 ) -> Option<Stepped<'a>>
     requires operations { AreOperations flow.now (seen_operations operations.now) }
     requires state { IsState flow.now state.now }
-    requires edge { CanFollow flow.now (seen_operations operations.now) edge.now }
+    requires edge { CanFollowEdge flow.now (seen_operations operations.now) edge.now }
     ensures { result ≡ edge_step flow.now (seen_operations operations.now) state.now edge.now }
 {
     match &state[edge.from as usize] {
@@ -41,7 +41,7 @@ fn step<'a>(
     row: &'a Values,
 ) -> Option<Stepped<'a>>
     requires operations { AreOperations flow.now (seen_operations operations.now) }
-    requires row { IsRow flow.now row.now }
+    requires row { IsFlowRow flow.now row.now }
     requires action { CanAct flow.now (seen_operations operations.now) action.now }
     ensures { result ≡ stepped flow.now (seen_operations operations.now) action.now row.now }
 {
@@ -65,7 +65,7 @@ fn step<'a>(
 
 /// The tidied result of an operation's transformer at the values of some variables, or `None` where it has no member.
 fn applied(flow: &Flow, operation: &Operation<'_>, row: &Values, from: &[u32]) -> Option<Fields>
-    requires row { IsRow flow.now row.now }
+    requires row { IsFlowRow flow.now row.now }
     requires operation { CanApply flow.now (seen_operation operation.now) from.now }
     ensures { result ≡ applied flow.now (Some (seen_operation operation.now)) (at [] row.now from.now) }
 {

@@ -6,7 +6,7 @@ use Rattle.std.specs.Bool.{beq}
 use Rattle.am_lit.specs.Truth.{literal_value}
 use Rattle.am_gate.specs.Circuit.{Event, Event.And, Event.Xor, Event.Mux, Event.Clause, makes, Net, after, built}
 use Rattle.am_gate.specs.Folding.{folded, folded_in}
-use Rattle.am_gate.specs.Value.{Holds, Meets}
+use Rattle.am_gate.specs.Value.{EventHolds, Meets}
 use Rattle.am_gate.specs.Build.{Place, Step, past, ◌>>=◌, answer, made_or, ask, tell, place_of, Follows, Means}
 use Rattle.am_gate.proofs.Meaning.{literal_value-even}
 use Rattle.am_gate.proofs.Folds.{folded_from, value-and, value-xor, value-mux}
@@ -102,7 +102,7 @@ Means-truth h = record { holds = λ p t k. (h t).holds p t k }
 
 -- what a gate means, of the literal of its variable and of one that stands for it
 Means-ask : (v : ℕ → Bool) (e : Event) (P : ℕ → Type 0) →
-    ((g : ℕ) → Holds v g e → P (2 * g)) → (IsTrue (v 0) → (l : ℕ) → folded e ≡ Some l → P l) → Means v (ask e) P
+    ((g : ℕ) → EventHolds v g e → P (2 * g)) → (IsTrue (v 0) → (l : ℕ) → folded e ≡ Some l → P l) → Means v (ask e) P
 unfolding ask Meets
 Means-ask v e P gate fold = record { holds = λ p t h. go p t (folded_in p.folding e) refl h } where
   go : (p : Place) → IsTrue (v 0) → (o : Option ℕ) → folded_in p.folding e ≡ o →

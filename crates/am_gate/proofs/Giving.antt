@@ -1,14 +1,15 @@
 -- Rules of calls: what they give, from what they follow and how many gates that makes.
 use Rattle.std.proofs.Common.{ℕ, ◌≡◌, ◌+◌, ◌*◌, ◌≤◌, Bool, true, false, cond, List, [], ◌∷◌, length, length-append, sym}
 use Rattle.std.proofs.Common.{◌∙◌, ap, arith}
+use Rattle.std.specs.Prelude.{Ok}
 use Rattle.std.specs.List.{flat_map}
 use Rattle.am_lit.specs.Clause.{sorted_literals}
 use Rattle.am_gate.specs.Circuit.{Event, Event.Input, Event.And, Event.Xor, Event.Mux, Event.Clause, Net, after, built}
 use Rattle.am_gate.specs.Circuit.{added, clauses_of, is_tautology}
 use Rattle.am_gate.specs.Build.{Step, ◌>>=◌, answer, place_of, past, Follows, AreGates}
-use Rattle.am_gate.specs.Promises.{MakesGates, Gives}
+use Rattle.am_gate.specs.Promises.{MakesGates, GivesStep, GivesOrKeeps}
 use Rattle.am_gate.proofs.Building.{place_of-built, Follows-bind, Follows-answer}
-use Rattle.am_gate.proofs.Growth.{Grows-same, Grows-trans}
+use Rattle.am_gate.proofs.Growth.{Grows-same, Grows-trans, Follows-Begins}
 use Rattle.am_gate.proofs.Scoping.{vars-gates}
 
 one_added : (c : List ℕ) → length (added c) ≤ 1
@@ -48,9 +49,9 @@ clauses-gates n (Mux c a b ∷ es) h =
 clauses-gates n (Clause literals ∷ es) h = absurd h
 
 -- a call that follows a step gives what the step makes
-pub Gives-Follows : {A : Type 0} {m : Step A} {k : ℕ} {Q : ℕ → A → Type 0} {old : Net} {r : A} {new : Net} →
-    MakesGates m k Q (place_of old) → Follows m old r new → Gives m k Q old r new
-Gives-Follows {m = m} {k = k} {old = old} {new = new} s f =
+pub GivesStep-Follows : {A : Type 0} {m : Step A} {k : ℕ} {Q : ℕ → A → Type 0} {old : Net} {r : A} {new : Net} →
+    MakesGates m k Q (place_of old) → Follows m old r new → GivesStep m k Q old r new
+GivesStep-Follows {m = m} {k = k} {old = old} {new = new} s f =
     let es = (m (place_of old)).events in
     let there : (past (place_of old) es).next ≡ new.vars =
     ap (λ p. p.next) (sym (place_of-built old es)) ∙ ap (λ n. n.vars) (sym f.circuit) in
@@ -68,15 +69,21 @@ Gives-Follows {m = m} {k = k} {old = old} {new = new} s f =
       };
     }
 
+-- the same of a call that found memory
+pub GivesOrKeeps-Follows : {A E : Type 0} {m : Step A} {k : ℕ} {Q : ℕ → A → Type 0} {old : Net} {r : A} {new : Net} →
+    MakesGates m k Q (place_of old) → Follows m old r new → GivesOrKeeps {E = E} m k Q old (Ok r) new
+GivesOrKeeps-Follows s f = record { ok = GivesStep-Follows s f; err = tt; begins = Follows-Begins f }
+
 -- an answer needs no call
-pub Gives-answer : {A : Type 0} {r : A} {Q : ℕ → A → Type 0} {n : Net} → Q n.vars r → Gives (answer r) 0 Q n r n
-Gives-answer {n = n} h = record { follows = Follows-answer; given = h; grows = Grows-same n }
+pub GivesStep-answer : {A : Type 0} {r : A} {Q : ℕ → A → Type 0} {n : Net} → Q n.vars r → GivesStep (answer r) 0 Q n r n
+GivesStep-answer {n = n} h = record { follows = Follows-answer; given = h; grows = Grows-same n }
 
 -- one call after another
-pub Gives-bind : {A B : Type 0} {m : Step A} {j k n : ℕ} {P : ℕ → A → Type 0} {Q : ℕ → B → Type 0} {old mid new : Net}
+pub GivesStep-bind : {A B : Type 0} {m : Step A} {j k n : ℕ} {P : ℕ → A → Type 0} {Q : ℕ → B → Type 0}
+    {old mid new : Net}
     {a : A} {b : B} (f : A → Step B) →
-    Gives m j P old a mid → Gives (f a) k Q mid b new → j + k ≤ n → Gives (m >>= f) n Q old b new
-Gives-bind {n = n} f one two e = record {
+    GivesStep m j P old a mid → GivesStep (f a) k Q mid b new → j + k ≤ n → GivesStep (m >>= f) n Q old b new
+GivesStep-bind {n = n} f one two e = record {
   follows = Follows-bind f one.follows two.follows;
   given = two.given;
   grows = Grows-trans n one.grows two.grows e;

@@ -11,7 +11,7 @@ pub use Rattle.am_gate.proofs.Building.{Means-mux, Means-Follows}
 pub use Rattle.am_gate.proofs.Scoping.{AreScoped-append, AreGates-append, past-append, past-not_less}
 pub use Rattle.am_gate.proofs.Making.{Makes-answer, Makes-bind, Makes-weaker, Makes-count, Makes-and, Makes-xor}
 pub use Rattle.am_gate.proofs.Making.{Makes-mux, Makes-exactly, Makes-extend}
-pub use Rattle.am_gate.proofs.Giving.{Gives-answer, Gives-bind, Gives-Follows}
+pub use Rattle.am_gate.proofs.Giving.{GivesStep-answer, GivesStep-bind, GivesStep-Follows}
 pub use Rattle.am_gate.proofs.Reaching.{Reaches-answer, Reaches-bind, Reaches-gates, Reaches-tell}
 pub use Rattle.am_gate.proofs.Made.{HasInputs-start, HasInputs-Follows, HasInputs-gates, HasInputs-input}
 pub use Rattle.am_gate.proofs.Made.{HasInputs-tell, Follows-input}

@@ -5,7 +5,7 @@ use Rattle.am_gate.specs.Circuit.{Event, Event.And, Event.Xor, Event.Mux, Net, I
 use Rattle.am_gate.specs.Folding.{folded, folded_in}
 use Rattle.am_gate.specs.Build.{Step, Place, place_of, past, ◌>>=◌, answer, made_or, ask, Follows, AreGates}
 use Rattle.am_gate.specs.Value.{Meets}
-use Rattle.am_gate.specs.Promises.{Counts, MakesGates}
+use Rattle.am_gate.specs.Promises.{CountsGates, MakesGates}
 use Rattle.am_gate.proofs.Building.{place_of-built}
 use Rattle.am_gate.proofs.Normals.{two, three}
 use Rattle.am_gate.proofs.Folds.{folded_from, within-and, within-xor, within-mux}
@@ -21,8 +21,8 @@ Makes-answer a h = record {
   given = h;
 }
 
-Counts-trans : (j k n : ℕ) (p q r : Place) → j + k ≡ n → Counts j p q → Counts k q r → Counts n p r
-Counts-trans j k n p q r e one two = record {
+CountsGates-trans : (j k n : ℕ) (p q r : Place) → j + k ≡ n → CountsGates j p q → CountsGates k q r → CountsGates n p r
+CountsGates-trans j k n p q r e one two = record {
   most = omega (arith, e, one.most, two.most);
   exact = λ f. omega (arith, e, one.exact f, two.exact (one.folding ∙ f));
   folding = two.folding ∙ one.folding;
@@ -44,7 +44,7 @@ Makes-bind {m = m} {p = p} {j = j} {n = n} {Q = Q} f k one e two =
     record {
       scoped = AreScoped-append p es fs one.scoped r.scoped;
       gates = AreGates-append es fs one.gates r.gates;
-      counts = rw end (Counts-trans j k n p q (past q fs) e one.counts r.counts);
+      counts = rw end (CountsGates-trans j k n p q (past q fs) e one.counts r.counts);
       given = rw end r.given;
     }
 
@@ -81,7 +81,7 @@ Makes-ask e p one gate below fold = record {
   gates None = gate
   gates (Some l) = tt
 
-  counts : (o : Option ℕ) → folded_in p.folding e ≡ o → Counts 1 p (past p (made_or o e p.next).events)
+  counts : (o : Option ℕ) → folded_in p.folding e ≡ o → CountsGates 1 p (past p (made_or o e p.next).events)
   counts None q = record { most = omega (arith, one); exact = λ f. omega (arith, one); folding = refl }
   counts (Some l) q = record { most = omega arith; exact = λ f. absurd (cc (rw f at q)); folding = refl }
 

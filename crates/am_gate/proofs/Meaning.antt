@@ -14,7 +14,7 @@ use Rattle.am_lit.specs.Truth.{literal_value, clause_value, Satisfies}
 use Rattle.am_lit.proofs.Laws.{clause_value-sorted_literals, literal_value-opposite_of}
 use Rattle.am_gate.specs.Circuit.{Event, Event.Input, Event.And, Event.Xor, Event.Mux, Event.Clause, Net, clauses_of}
 use Rattle.am_gate.specs.Circuit.{is_tautology, added, after, built, start}
-use Rattle.am_gate.specs.Value.{Holds, Meets}
+use Rattle.am_gate.specs.Value.{EventHolds, Meets}
 use Rattle.am_gate.proofs.Sorting.{added_dropped, added_kept, tautology_parts}
 
 -- a variable's literal has the variable's value
@@ -120,14 +120,14 @@ module _ (v : ℕ → Bool) where
   same_to : (x y : Bool) → x ≡ y → beq x y ≡ true
   same_to x y h = grind arith
 
-  Holds_from : (g : ℕ) (e : Event) → holds g e ≡ true → Holds v g e
+  Holds_from : (g : ℕ) (e : Event) → holds g e ≡ true → EventHolds v g e
   Holds_from g Input h = tt
   Holds_from g (And a b) h = same_from _ _ h
   Holds_from g (Xor a b) h = same_from _ _ h
   Holds_from g (Mux c a b) h = same_from _ _ h
   Holds_from g (Clause literals) h = h
 
-  Holds_to : (g : ℕ) (e : Event) → Holds v g e → holds g e ≡ true
+  Holds_to : (g : ℕ) (e : Event) → EventHolds v g e → holds g e ≡ true
   Holds_to g Input h = refl
   Holds_to g (And a b) h = same_to _ _ h
   Holds_to g (Xor a b) h = same_to _ _ h

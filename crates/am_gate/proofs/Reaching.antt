@@ -7,7 +7,7 @@ use Rattle.am_lit.specs.Literal.{variable_of}
 use Rattle.am_lit.specs.Truth.{literal_value, clause_value}
 use Rattle.am_gate.specs.Circuit.{Event, Event.Input, Event.And, Event.Xor, Event.Mux, Event.Clause, IsLiteral, makes}
 use Rattle.am_gate.specs.Circuit.{AreScoped, literals_of}
-use Rattle.am_gate.specs.Value.{Holds, Meets}
+use Rattle.am_gate.specs.Value.{EventHolds, Meets}
 use Rattle.am_gate.specs.Build.{Place, Step, past, ◌>>=◌, answer, tell, Means}
 use Rattle.am_gate.specs.Promises.{MakesGates}
 use Rattle.am_gate.specs.Reaches.{Reaches}
@@ -28,8 +28,8 @@ module _ (u v : ℕ → Bool) where
       rw (literal-same g l f (All-head (IsLiteral g) l c h), clause-same g c f (All-tail (IsLiteral g) l c h)) refl
 
   holds-same : (g : ℕ) (e : Event) → ((x : ℕ) → x < g + makes e → u x ≡ v x) → All (IsLiteral g) (literals_of e) →
-      Holds v g e →
-      Holds u g e
+      EventHolds v g e →
+      EventHolds u g e
   holds-same g Input f s h = tt
   holds-same g (And a b) f s h =
       let low = λ (x : ℕ) (l : x < g). f x (omega (arith, l)) in

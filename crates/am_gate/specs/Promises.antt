@@ -1,10 +1,10 @@
 -- What steps promise of the gates that they make, and calls of what they give.
-use Rattle.std.specs.Prelude.{ℕ, ◌≡◌, ◌+◌, ◌≤◌, false}
-use Rattle.am_gate.specs.Circuit.{Net, AreScoped, Grows}
+use Rattle.std.specs.Prelude.{ℕ, ◌≡◌, ◌+◌, ◌≤◌, false, Result, IfOk, OnErr}
+use Rattle.am_gate.specs.Circuit.{Net, AreScoped, Grows, Begins}
 use Rattle.am_gate.specs.Build.{Step, Place, past, AreGates, Follows}
 
 -- at most k gates lie between two places, and exactly k where none folds
-pub record Counts (k : ℕ) (from to : Place) : Type 0 where
+pub record CountsGates (k : ℕ) (from to : Place) : Type 0 where
   pub most : to.next ≤ from.next + k
   pub exact : from.folding ≡ false → to.next ≡ from.next + k
   pub folding : to.folding ≡ from.folding
@@ -14,12 +14,20 @@ pub record Counts (k : ℕ) (from to : Place) : Type 0 where
 pub record MakesGates {A : Type 0} (m : Step A) (k : ℕ) (Q : ℕ → A → Type 0) (p : Place) : Type 0 where
   pub scoped : AreScoped p.next (m p).events
   pub gates : AreGates (m p).events
-  pub counts : Counts k p (past p (m p).events)
+  pub counts : CountsGates k p (past p (m p).events)
   pub given : Q (past p (m p).events).next (m p).value
 
 -- a call gave and made what the step does, which is at most k gates, and what it gave is as Q says
-pub record Gives {A : Type 0} (m : Step A) (k : ℕ) (Q : ℕ → A → Type 0) (old : Net) (result : A) (new : Net)
+pub record GivesStep {A : Type 0} (m : Step A) (k : ℕ) (Q : ℕ → A → Type 0) (old : Net) (result : A) (new : Net)
     : Type 0 where
   pub follows : Follows m old result new
   pub given : Q new.vars result
   pub grows : Grows k old new
+
+-- a call gave and made what the step does, which is at most k gates, and what it gave is as Q says; or it
+-- failed, and the circuit is as it was
+pub record GivesOrKeeps {A E : Type 0} (m : Step A) (k : ℕ) (Q : ℕ → A → Type 0) (old : Net) (result : Result A E)
+    (new : Net) : Type 0 where
+  pub ok : IfOk result (λ a. GivesStep m k Q old a new)
+  pub err : OnErr result (new ≡ old)
+  pub begins : Begins old new

@@ -10,6 +10,7 @@ ghost use Rattle.am_gate.specs.Circuit.{Net, Event, Event.Input, Event.And, Even
 ghost use Rattle.am_gate.specs.Circuit.{built, IsLiteral, HasInputs, HasRoom, Grows, Begins};
 ghost use Rattle.am_gate.specs.Value.{Meets};
 ghost use Rattle.am_gate.specs.Build.{ask, tell, Follows};
+ghost use Rattle.am_gate.specs.Promises.{GivesOrKeeps};
 
 use crate::fold::{folded_and, folded_mux, folded_xor};
 use crate::sorted::SortedClauses;
@@ -77,11 +78,7 @@ impl Circuit {
     /// Makes an input: a variable that may have either value.
     pub fn input(&mut self) -> Result<Lit, AllocError>
         requires { HasRoom 1 self.old }
-        ensures ok { IfOk result (λ g. Follows (ask Input) self.old g self.new) }
-        ensures inside { IfOk result (IsLiteral self.new.vars) }
-        ensures grows { OnOk result (Grows 1 self.old self.new) }
-        ensures err { OnErr result (self.new ≡ self.old) }
-        ensures begins { Begins self.old self.new }
+        ensures { GivesOrKeeps (ask Input) 1 IsLiteral self.old result self.new }
     {
         let g = self.next();
         self.vars += 1;
@@ -93,11 +90,7 @@ impl Circuit {
         requires room { HasRoom 1 self.old }
         requires first { IsLiteral self.old.vars a }
         requires second { IsLiteral self.old.vars b }
-        ensures ok { IfOk result (λ g. Follows (ask (And a b)) self.old g self.new) }
-        ensures inside { IfOk result (IsLiteral self.new.vars) }
-        ensures grows { OnOk result (Grows 1 self.old self.new) }
-        ensures err { OnErr result (self.new ≡ self.old) }
-        ensures begins { Begins self.old self.new }
+        ensures { GivesOrKeeps (ask (And a b)) 1 IsLiteral self.old result self.new }
     {
         if let Some(l) = self.if_folding(folded_and(a, b)) {
             return Ok(l);
@@ -117,11 +110,7 @@ impl Circuit {
         requires room { HasRoom 1 self.old }
         requires first { IsLiteral self.old.vars a }
         requires second { IsLiteral self.old.vars b }
-        ensures ok { IfOk result (λ g. Follows (ask (Xor a b)) self.old g self.new) }
-        ensures inside { IfOk result (IsLiteral self.new.vars) }
-        ensures grows { OnOk result (Grows 1 self.old self.new) }
-        ensures err { OnErr result (self.new ≡ self.old) }
-        ensures begins { Begins self.old self.new }
+        ensures { GivesOrKeeps (ask (Xor a b)) 1 IsLiteral self.old result self.new }
     {
         if let Some(l) = self.if_folding(folded_xor(a, b)) {
             return Ok(l);
@@ -144,11 +133,7 @@ impl Circuit {
         requires choice { IsLiteral self.old.vars c }
         requires first { IsLiteral self.old.vars a }
         requires second { IsLiteral self.old.vars b }
-        ensures ok { IfOk result (λ g. Follows (ask (Mux c a b)) self.old g self.new) }
-        ensures inside { IfOk result (IsLiteral self.new.vars) }
-        ensures grows { OnOk result (Grows 1 self.old self.new) }
-        ensures err { OnErr result (self.new ≡ self.old) }
-        ensures begins { Begins self.old self.new }
+        ensures { GivesOrKeeps (ask (Mux c a b)) 1 IsLiteral self.old result self.new }
     {
         if let Some(l) = self.if_folding(folded_mux(c, a, b)) {
             return Ok(l);

@@ -16,7 +16,7 @@ use Rattle.am_chain.specs.Resolvent.{resolvent}
 use Rattle.am_chain.proofs.Laws.{into_resolvent}
 use Rattle.am_hint.specs.declared.status.Status.{Status}
 use Rattle.am_hint.specs.declared.status.Status.TheVariants.{Conflict, Forces, Open}
-use Rattle.am_hint.specs.Hints.{is_in, not_false, status_of}
+use Rattle.am_hint.specs.Hints.{is_hinted_in, not_false, status_of}
 use Rattle.am_hint.proofs.Truths.{Contains-is_in, is_in-Contains}
 
 -- a literal of a clause without the opposite of a literal, other than that literal, is of another variable
@@ -67,7 +67,7 @@ left_alone : (row c : List ℕ) (q : ℕ) → AllPairs (λ x y. x < y) c → All
     → (not_false row c ≡ []) ⊎ (not_false row c ≡ q ∷ [])
 left_alone row [] q rising h = inl refl
 left_alone row (m ∷ c) q rising h = elim (same_or m q) [
-  | inl e ↦ go e (is_in row (opposite_of m))
+  | inl e ↦ go e (is_hinted_in row (opposite_of m))
   | inr ne ↦
       rw (is_in-Contains row (opposite_of m) (All-head opposite m c h ne))
       (left_alone row c q (AllPairs-tail (λ x y. x < y) m c rising) (All-tail opposite m c h))
@@ -97,9 +97,9 @@ pub forced_status : (row c : List ℕ) (q : ℕ) → IsStrictlyIncreasing c → 
     → IsForcedStatus row q (status_of row c)
 forced_status row c q rising forced = elim (left_alone row c q (AllPairs-from_increasing c rising) forced.1) [
   | inl e ↦ rw e conflict
-  | inr e ↦ rw e (go (is_in row q) refl)
+  | inr e ↦ rw e (go (is_hinted_in row q) refl)
 ] where
-  go : (b : Bool) → is_in row q ≡ b → IsForcedStatus row q (cond b Open (Forces q))
+  go : (b : Bool) → is_hinted_in row q ≡ b → IsForcedStatus row q (cond b Open (Forces q))
   go true is = passes (Contains-is_in row q is)
   go false is = forces
 

@@ -15,7 +15,7 @@ use Rattle.am_chain.specs.Replay.{replay}
 use Rattle.am_chain.proofs.Laws.{ok_parts}
 use Rattle.am_hint.specs.declared.hint.Hint.{Hint}
 use Rattle.am_hint.specs.Hints.{hint_fault, is_normal, propagation_fault}
-use Rattle.am_hint.specs.HintReplay.{clauses_of}
+use Rattle.am_hint.specs.HintReplay.{hint_clauses}
 use Rattle.am_hint.specs.inside.Translated.{AreMoved, AreTranslated, NewNumbers, clauses_before}
 use Rattle.am_hint.proofs.Laws.{hints_grow, passes_where}
 use Rattle.am_hint.proofs.Earlier.{with_clause}
@@ -32,17 +32,17 @@ module _ (vars : ℕ) (k : Checked) (numbers : NewNumbers) (hints : List Hint) (
 
   -- a chain whose clause gets a hint
   pub hint_added : (hint : Hint) → hint.clause ≡ c → number ≡ length k.given + length hints
-      → hint_fault vars (k.given ++ clauses_of hints) hint ≡ None → length hint.by ≤ 2 ^ 30
+      → hint_fault vars (k.given ++ hint_clauses hints) hint ≡ None → length hint.by ≤ 2 ^ 30
       → AreTranslated vars (with_clause k c) (with_number numbers number) (hints ++ hint ∷ [])
   hint_added hint is here passes short =
-      let clauses : clauses_of (hints ++ hint ∷ []) ≡ clauses_of hints ++ c ∷ [] =
-      map-append (λ (h : Hint). h.clause) hints (hint ∷ []) ∙ ap (λ d. clauses_of hints ++ d ∷ []) is in
-      let place : number ≡ length k.given + length (clauses_of hints) =
+      let clauses : hint_clauses (hints ++ hint ∷ []) ≡ hint_clauses hints ++ c ∷ [] =
+      map-append (λ (h : Hint). h.clause) hints (hint ∷ []) ∙ ap (λ d. hint_clauses hints ++ d ∷ []) is in
+      let place : number ≡ length k.given + length (hint_clauses hints) =
       omega (arith, here, length-map hints (λ (h : Hint). h.clause)) in
       record {
         pass = hints_grow vars k.given hints hint are.pass passes;
         given = are.given;
-        moved = rw clauses (push_hinted k.given k.derived (clauses_of hints) numbers.chains are.moved c number place);
+        moved = rw clauses (push_hinted k.given k.derived (hint_clauses hints) numbers.chains are.moved c number place);
         few = omega (arith, more_derived, length-append hints (hint ∷ []), are.few);
         short = All-push (λ (h : Hint). length h.by ≤ 2 ^ 30) hints hint are.short short;
       }
@@ -52,7 +52,7 @@ module _ (vars : ℕ) (k : Checked) (numbers : NewNumbers) (hints : List Hint) (
   left_out twice = record {
     pass = are.pass;
     given = are.given;
-    moved = push_left_out k.given k.derived (clauses_of hints) numbers.chains are.moved c number twice;
+    moved = push_left_out k.given k.derived (hint_clauses hints) numbers.chains are.moved c number twice;
     few = omega (arith, more_derived, are.few);
     short = are.short;
   }
@@ -68,13 +68,14 @@ module _ (vars : ℕ) (k after : Checked) (numbers : NewNumbers) (hints : List H
       → ((hinted : List (List ℕ))
       → AreMoved after.given (take (length numbers.chains) after.derived) hinted numbers.chains
       → propagation_fault (after.given ++ hinted) row 0 by ≡ None)
-      → hint_fault vars (k.given ++ clauses_of hints) (record { clause = c; by = by }) ≡ None
+      → hint_fault vars (k.given ++ hint_clauses hints) (record { clause = c; by = by }) ≡ None
   hint_passes row by is normal ends =
       let given : after.given ≡ k.given = ap (λ (x : Checked). x.given) grown in
       let derived : take (length numbers.chains) after.derived ≡ k.derived =
       rw (grown, are.moved.long) (take-append_seam k.derived (c ∷ [])) in
-      let passes = ends (clauses_of hints) (rw (given, derived) are.moved) in
-      passes_where vars (k.given ++ clauses_of hints) (record { clause = c; by = by }) normal (rw (given, is) at passes)
+      let passes = ends (hint_clauses hints) (rw (given, derived) are.moved) in
+      passes_where vars (k.given ++ hint_clauses hints) (record { clause = c; by = by }) normal
+      (rw (given, is) at passes)
 
 -- what holds of all clauses, and of a further one, holds of all with it
 pub All-with_clause : (P : List ℕ → Type 0) (k : Checked) (c : List ℕ) → All P (all_clauses k) → P c

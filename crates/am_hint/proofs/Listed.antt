@@ -7,7 +7,7 @@ use Rattle.am_chain.proofs.Laws.{implied_by_given, none_satisfies}
 use Rattle.am_hint.specs.declared.fault.HintFault.{HintFault}
 use Rattle.am_hint.specs.declared.hint.Hint.{Hint}
 use Rattle.am_hint.specs.Hints.{hint_fault, match_option}
-use Rattle.am_hint.specs.HintReplay.{AllPass, HintsFault, HintsRefute, clauses_of, hints_fault}
+use Rattle.am_hint.specs.HintReplay.{AllPass, HintsFault, HintsRefute, hint_clauses, hints_fault}
 use Rattle.am_hint.proofs.Sound.{hints_are_sound}
 
 -- the clauses after a hint
@@ -20,8 +20,8 @@ fault_at number f = record { hint = number; fault = f }
 
 -- the clause of a hint stands before those of the hints after it
 clauses_after : (clauses : List (List ℕ)) (first : Hint) (hints : List Hint)
-    → with_clause clauses first ++ clauses_of hints ≡ clauses ++ clauses_of (first ∷ hints)
-clauses_after clauses first hints = append_assoc clauses (first.clause ∷ []) (clauses_of hints)
+    → with_clause clauses first ++ hint_clauses hints ≡ clauses ++ hint_clauses (first ∷ hints)
+clauses_after clauses first hints = append_assoc clauses (first.clause ∷ []) (hint_clauses hints)
 
 -- where a list has no fault, its first hint passes, and the others have none after it
 passed : (outcome : Option HintFault) (number : ℕ) (rest : Option HintsFault)
@@ -39,20 +39,20 @@ module _ (vars : ℕ) where
 
   -- a list without a fault has none with a further hint that passes after it
   no_fault-push : (clauses : List (List ℕ)) (number : ℕ) (hints : List Hint) (hint : Hint)
-      → hints_fault vars clauses number hints ≡ None → hint_fault vars (clauses ++ clauses_of hints) hint ≡ None
+      → hints_fault vars clauses number hints ≡ None → hint_fault vars (clauses ++ hint_clauses hints) hint ≡ None
       → hints_fault vars clauses number (hints ++ hint ∷ []) ≡ None
   no_fault-push clauses number [] hint e h =
       let passes : hint_fault vars clauses hint ≡ None = rw append-nil at h in
       rw passes refl
   no_fault-push clauses number (first ∷ hints) hint e h =
       let one = first_passed clauses number first hints e in
-      let after : hint_fault vars (with_clause clauses first ++ clauses_of hints) hint ≡ None =
+      let after : hint_fault vars (with_clause clauses first ++ hint_clauses hints) hint ≡ None =
       rw (clauses_after clauses first hints) h in
       rw one.0 (no_fault-push (with_clause clauses first) (number + 1) hints hint one.1 after)
 
   -- the fault of a hint after hints that pass is the list's first
   fault_after : (clauses : List (List ℕ)) (number : ℕ) (before after : List Hint) (hint : Hint) (f : HintFault)
-      → hints_fault vars clauses number before ≡ None → hint_fault vars (clauses ++ clauses_of before) hint ≡ Some f
+      → hints_fault vars clauses number before ≡ None → hint_fault vars (clauses ++ hint_clauses before) hint ≡ Some f
       → hints_fault vars clauses number (before ++ hint ∷ after) ≡ Some (fault_at (number + length before) f)
   fault_after clauses number [] after hint f e h =
       let fails : hint_fault vars clauses hint ≡ Some f = rw append-nil at h in
@@ -60,7 +60,7 @@ module _ (vars : ℕ) where
       rw (fails, count) refl
   fault_after clauses number (first ∷ before) after hint f e h =
       let one = first_passed clauses number first before e in
-      let fails : hint_fault vars (with_clause clauses first ++ clauses_of before) hint ≡ Some f =
+      let fails : hint_fault vars (with_clause clauses first ++ hint_clauses before) hint ≡ Some f =
       rw (clauses_after clauses first before) h in
       let later = fault_after (with_clause clauses first) (number + 1) before after hint f one.1 fails in
       let count : (number + 1) + length before ≡ number + length (first ∷ before) = omega arith in
@@ -68,7 +68,7 @@ module _ (vars : ℕ) where
 
   -- the clauses of hints that pass follow from the given ones
   clauses_implied : (given before : List (List ℕ)) (number : ℕ) (hints : List Hint) → All (Implies given) before
-      → hints_fault vars (given ++ before) number hints ≡ None → All (Implies given) (before ++ clauses_of hints)
+      → hints_fault vars (given ++ before) number hints ≡ None → All (Implies given) (before ++ hint_clauses hints)
   clauses_implied given before number [] follow e = rw append-nil follow
   clauses_implied given before number (first ∷ hints) follow e =
       let one = first_passed (given ++ before) number first hints e in
@@ -82,12 +82,12 @@ module _ (vars : ℕ) where
 
   -- where all hints pass, and a further one passes after them, all pass with it
   pub hints_grow : (clauses : List (List ℕ)) (hints : List Hint) (hint : Hint) → AllPass vars clauses hints
-      → hint_fault vars (clauses ++ clauses_of hints) hint ≡ None → AllPass vars clauses (hints ++ hint ∷ [])
+      → hint_fault vars (clauses ++ hint_clauses hints) hint ≡ None → AllPass vars clauses (hints ++ hint ∷ [])
   hints_grow clauses hints hint e h = no_fault-push clauses 0 hints hint e h
 
   -- where the hints before one pass and that one doesn't, its fault is the list's first
   pub first_hint_faults_stand : (clauses : List (List ℕ)) (before after : List Hint) (hint : Hint) (f : HintFault)
-      → AllPass vars clauses before → hint_fault vars (clauses ++ clauses_of before) hint ≡ Some f
+      → AllPass vars clauses before → hint_fault vars (clauses ++ hint_clauses before) hint ≡ Some f
       → hints_fault vars clauses 0 (before ++ hint ∷ after) ≡ Some (fault_at (length before) f)
   first_hint_faults_stand clauses before after hint f e h =
       let count : 0 + length before ≡ length before = omega arith in
@@ -99,4 +99,4 @@ module _ (vars : ℕ) where
   hint_refutations_are_sound clauses hints r =
       let pass : hints_fault vars (clauses ++ []) 0 hints ≡ None = rw append-nil r.0 in
       let implied = clauses_implied clauses [] 0 hints (All-nil (Implies clauses)) pass in
-      none_satisfies clauses (clauses_of hints) implied (rw r.1.1 (Contains-push r.1.0 []))
+      none_satisfies clauses (hint_clauses hints) implied (rw r.1.1 (Contains-push r.1.0 []))

@@ -14,7 +14,7 @@ use Rattle.am_hint.specs.declared.fault.HintWhy.TheVariants.{NoClause, NotNormal
 use Rattle.am_hint.specs.declared.hint.Hint.{Hint}
 use Rattle.am_hint.specs.declared.status.Status.{Status}
 use Rattle.am_hint.specs.declared.status.Status.TheVariants.{Forces, Open}
-use Rattle.am_hint.specs.Hints.{fault, hint_fault, is_in, is_normal, match_option, match_status, not_false}
+use Rattle.am_hint.specs.Hints.{fault, hint_fault, is_hinted_in, is_normal, match_option, match_status, not_false}
 use Rattle.am_hint.specs.Hints.{propagation_fault, status_by, status_of}
 use Rattle.am_hint.proofs.Truths.{Contains-is_in}
 
@@ -23,10 +23,10 @@ true_left : (w : ℕ → Bool) (row c : List ℕ) (m : ℕ) → AllHold w row �
     → Contains (not_false row c) m
 true_left w row c m holds there t =
     let n = opposite_of m in
-    let absent : is_in row n ≡ false = false_from_ne_true (is_in row n) (λ h.
+    let absent : is_hinted_in row n ≡ false = false_from_ne_true (is_hinted_in row n) (λ h.
     let holds_too = All-contains (λ l. IsTrue (literal_value w l)) row n holds (Contains-is_in row n h) in
     both_ways (literal_value w n) (literal_value-opposite_of w m ∙ ap not t) holds_too) in
-    Contains-filter (λ l. not (is_in row (opposite_of l))) c m there (not_from_false (is_in row n) absent)
+    Contains-filter (λ l. not (is_hinted_in row (opposite_of l))) c m there (not_from_false (is_hinted_in row n) absent)
 
 module _ (w : ℕ → Bool) (clauses : List (List ℕ)) (satisfied : Satisfies w clauses) where
   -- what comes after a clause of this status
@@ -44,7 +44,7 @@ module _ (w : ℕ → Bool) (clauses : List (List ℕ)) (satisfied : Satisfies w
   clause_taken : (row left by : List ℕ) (place m : ℕ) → AllHold w row → Contains left m → literal_value w m ≡ true
       → NoneLater row place by → ¬ (after_status row place by (status_by row left) ≡ None)
   clause_taken row [] by place m holds there t rest e = Contains-nil m there
-  clause_taken row (l ∷ []) by place m holds there t rest e = go (is_in row l) e where
+  clause_taken row (l ∷ []) by place m holds there t rest e = go (is_hinted_in row l) e where
     same : l ≡ m
     same = elim (Contains-cons_cases l [] m there) [ inl e ↦ e | inr none ↦ absurd (Contains-nil m none) ]
 

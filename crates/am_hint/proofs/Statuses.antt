@@ -6,13 +6,13 @@ use Rattle.std.proofs.lemmas.List.Elements.{All-contains, All-contains_itself, A
 use Rattle.am_lit.specs.Clause.{IsFormula}
 use Rattle.am_lit.specs.Literal.{opposite_of, variable_of}
 use Rattle.am_lit.proofs.Laws.{Contains-head}
-use Rattle.am_hint.specs.Hints.{is_in, not_false, status_by, status_of}
+use Rattle.am_hint.specs.Hints.{is_hinted_in, not_false, status_by, status_of}
 use Rattle.am_hint.specs.declared.status.Status.TheVariants.{Forces, Open}
 
 -- where a literal is forced, it alone is left
 forced_alone : (row left : List ℕ) (l : ℕ) → status_by row left ≡ Forces l → left ≡ l ∷ []
 forced_alone row [] l e = cc
-forced_alone row (m ∷ []) l e = go (is_in row m) e where
+forced_alone row (m ∷ []) l e = go (is_hinted_in row m) e where
   go : (b : Bool) → cond b Open (Forces m) ≡ Forces l → m ∷ [] ≡ l ∷ []
   go true e = cc
   go false e = cc
@@ -22,7 +22,7 @@ forced_alone row (m ∷ n ∷ ms) l e = cc
 pub forced_member : (row c : List ℕ) (l : ℕ) → status_of row c ≡ Forces l → Contains c l
 forced_member row c l e =
     let alone = forced_alone row (not_false row c) l e in
-    let kept = All-filter (λ m. not (is_in row (opposite_of m))) (Contains c) c (All-contains_itself c) in
+    let kept = All-filter (λ m. not (is_hinted_in row (opposite_of m))) (Contains c) c (All-contains_itself c) in
     All-contains (Contains c) (not_false row c) l kept (rw alone (Contains-head l []))
 
 -- the variables of a clause of a formula are below its number of variables

@@ -5,7 +5,7 @@ use Rattle.am_lit.specs.Truth.{Implies, IsSatisfiable}
 use Rattle.am_hint.specs.declared.fault.HintFault.{HintFault}
 use Rattle.am_hint.specs.declared.hint.Hint.{Hint}
 use Rattle.am_hint.specs.Hints.{hint_fault, is_normal}
-use Rattle.am_hint.specs.HintReplay.{AllPass, HintsRefute, clauses_of, hints_fault}
+use Rattle.am_hint.specs.HintReplay.{AllPass, HintsRefute, hint_clauses, hints_fault}
 
 -- the test of a hint's clause says yes exactly where the clause is normal
 abbrev pub NormalTestsAreRight : Type 0
@@ -24,11 +24,11 @@ HintRefutationsAreSound = (vars : ℕ) (clauses : List (List ℕ)) (hints : List
 -- where all hints pass, and a further one passes after them, all pass with it
 abbrev pub HintsGrow : Type 0
 HintsGrow = (vars : ℕ) (clauses : List (List ℕ)) (hints : List Hint) (hint : Hint)
-    → AllPass vars clauses hints → hint_fault vars (clauses ++ clauses_of hints) hint ≡ None
+    → AllPass vars clauses hints → hint_fault vars (clauses ++ hint_clauses hints) hint ≡ None
     → AllPass vars clauses (hints ++ hint ∷ [])
 
 -- where the hints before one pass and that one doesn't, its fault is the list's first
 abbrev pub FirstHintFaultsStand : Type 0
 FirstHintFaultsStand = (vars : ℕ) (clauses : List (List ℕ)) (before after : List Hint) (hint : Hint) (f : HintFault)
-    → AllPass vars clauses before → hint_fault vars (clauses ++ clauses_of before) hint ≡ Some f
+    → AllPass vars clauses before → hint_fault vars (clauses ++ hint_clauses before) hint ≡ Some f
     → hints_fault vars clauses 0 (before ++ hint ∷ after) ≡ Some (record { hint = length before; fault = f })

@@ -11,8 +11,8 @@ pub record HintsFault : Type 0 where
   pub fault : HintFault
 
 -- the clauses of hints
-abbrev pub clauses_of : List Hint → List (List ℕ)
-clauses_of hints = map (λ hint. hint.clause) hints
+abbrev pub hint_clauses : List Hint → List (List ℕ)
+hint_clauses hints = map (λ hint. hint.clause) hints
 
 -- the first fault of the hints from a number on: each is tested over the clauses and those of the
 -- hints before it
@@ -29,4 +29,4 @@ AllPass vars clauses hints = hints_fault vars clauses 0 hints ≡ None
 
 -- hints refute clauses: every hint passes, there is a last one, and its clause is empty
 abbrev pub HintsRefute : ℕ → List (List ℕ) → List Hint → Type 0
-HintsRefute vars clauses hints = AllPass vars clauses hints × EndsEmpty (clauses_of hints)
+HintsRefute vars clauses hints = AllPass vars clauses hints × EndsEmpty (hint_clauses hints)

@@ -13,12 +13,12 @@ pub record Hinted : Type 0 where
   pub added : List (List ℕ)
 
 -- the clauses by their numbers
-abbrev pub all_clauses : Hinted → List (List ℕ)
-all_clauses k = k.given ++ k.added
+abbrev pub hinted_clauses : Hinted → List (List ℕ)
+hinted_clauses k = k.given ++ k.added
 
 -- what a checker makes of a hint: its first fault, or none
 abbrev pub fault_in : Hinted → Hint → Option HintFault
-fault_in k hint = hint_fault k.vars (all_clauses k) hint
+fault_in k hint = hint_fault k.vars (hinted_clauses k) hint
 
 -- a hint passes, and its clause was added with the next number
 abbrev pub IsTaken : Hinted → Hinted → Hint → Type 0
@@ -27,6 +27,6 @@ IsTaken old new hint =
     × (new ≡ record { vars = old.vars; given = old.given; added = old.added ++ hint.clause ∷ [] })
 
 -- an error is a hint's fault, or want of memory
-abbrev pub IsFaultOf : Option HintFault → HintError → Type 0
-IsFaultOf outcome (Fault f) = outcome ≡ Some f
-IsFaultOf outcome NoMemory = Unit {0}
+abbrev pub IsHintFaultOf : Option HintFault → HintError → Type 0
+IsHintFaultOf outcome (Fault f) = outcome ≡ Some f
+IsHintFaultOf outcome NoMemory = Unit {0}

@@ -25,18 +25,18 @@ is_normal vars c = variables_increase 0 vars c
 -- ---- what true literals make of a clause
 
 -- the literal is one of these
-abbrev pub is_in : List ℕ → ℕ → Bool
-is_in literals l = list_any (λ m. m == l) literals
+abbrev pub is_hinted_in : List ℕ → ℕ → Bool
+is_hinted_in literals l = list_any (λ m. m == l) literals
 
 -- the literals of a clause that aren't false where the literals of a row are true
 abbrev pub not_false : List ℕ → List ℕ → List ℕ
-not_false row c = filter (λ l. not (is_in row (opposite_of l))) c
+not_false row c = filter (λ l. not (is_hinted_in row (opposite_of l))) c
 
 -- a clause whose other literals are false: a conflict where none is left, and forcing where one is
 -- left that isn't true
 abbrev pub status_by : List ℕ → List ℕ → Status
 status_by row [] = Conflict
-status_by row (l ∷ []) = if is_in row l then Open else Forces l
+status_by row (l ∷ []) = if is_hinted_in row l then Open else Forces l
 status_by row (l ∷ m ∷ ms) = Open
 
 -- what a row of true literals makes of a clause

@@ -6,7 +6,7 @@ ghost use Rattle.am_lit.specs.Clause.{IsFormula};
 ghost use Rattle.am_lit.specs.Literal.{opposite_of, variable_of};
 ghost use Rattle.am_lit.specs.Truth.{IsSatisfiable};
 ghost use Rattle.am_chain.specs.Replay.{EndsEmpty};
-ghost use Rattle.am_hint.specs.Hinted.{Hinted, IsFaultOf, IsTaken, all_clauses, fault_in};
+ghost use Rattle.am_hint.specs.Hinted.{Hinted, IsHintFaultOf, IsTaken, fault_in, hinted_clauses};
 ghost use Rattle.am_hint.specs.Hints.{propagation_fault};
 
 use crate::fault::{HintError, HintFault, HintWhy};
@@ -64,10 +64,10 @@ impl<'a> HintChecker<'a> {
     /// Adds the hint's clause with the next number, if the hint passes. A refused hint leaves the
     /// checker unchanged, and its fault is the first place where the test fails.
     pub fn add(&mut self, hint: &Hint) -> Result<(), HintError>
-        requires clauses { length (all_clauses self.old) < 2 ^ 32 - 1 }
+        requires clauses { length (hinted_clauses self.old) < 2 ^ 32 - 1 }
         requires places { length hint.now.by < 2 ^ 32 }
         ensures ok { OnOk result (IsTaken self.old self.new hint.now) }
-        ensures fault { IfErr result (IsFaultOf (fault_in self.old hint.now)) }
+        ensures fault { IfErr result (IsHintFaultOf (fault_in self.old hint.now)) }
         ensures err { OnErr result (self.new ≡ self.old) }
     {
         let codes = hint.clause.as_slice();
@@ -131,7 +131,8 @@ fn propagate(
     requires normal { IsFormula (given.now ++ added.now) row.old.vars }
     requires places { length by.now < 2 ^ 32 }
     ensures ok { OnOk result (propagation_fault (given.now ++ added.now) row.old.literals 0 by.now ≡ None) }
-    ensures fault { IfErr result (IsFaultOf (propagation_fault (given.now ++ added.now) row.old.literals 0 by.now)) }
+    ensures fault { IfErr result
+        (IsHintFaultOf (propagation_fault (given.now ++ added.now) row.old.literals 0 by.now)) }
     ensures vars { row.new.vars ≡ row.old.vars }
 {
     let mut place = 0;

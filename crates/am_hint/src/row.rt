@@ -2,8 +2,8 @@
 
 ghost use Rattle.std.specs.Prelude.{◌≡◌, ℕ, ◌<◌, ◌/◌, [], ◌∷◌, ◌++◌, All, IfOk, IsTrue, OnErr, OnOk, false, length};
 ghost use Rattle.am_lit.specs.Literal.{variable_of};
-ghost use Rattle.am_hint.specs.Hints.{is_in, status_of};
-ghost use Rattle.am_hint.specs.inside.Rows.{Row, truth_at};
+ghost use Rattle.am_hint.specs.Hints.{is_hinted_in, status_of};
+ghost use Rattle.am_hint.specs.inside.Rows.{TrueRow, truth_at};
 
 use crate::status::Status;
 use am_lit::Lit;
@@ -22,14 +22,14 @@ pub struct TrueLiterals {
 
 impl Model for TrueLiterals {
     ghost use Rattle.std.specs.Prelude.{◌≡◌, ℕ, ◌/◌, length};
-    ghost use Rattle.am_hint.specs.Hints.{is_in};
-    ghost use Rattle.am_hint.specs.inside.Rows.{Row, truth_at};
+    ghost use Rattle.am_hint.specs.Hints.{is_hinted_in};
+    ghost use Rattle.am_hint.specs.inside.Rows.{TrueRow, truth_at};
 
-    ghost Value = { Row };
+    ghost Value = { TrueRow };
 
     ghost view = { λ a. record { vars = length a.truths.items / 2; literals = a.row.items } };
 
-    ghost invariant = { λ a. (l : ℕ) → truth_at a.truths.items l ≡ is_in a.row.items l };
+    ghost invariant = { λ a. (l : ℕ) → truth_at a.truths.items l ≡ is_hinted_in a.row.items l };
 }
 
 impl TrueLiterals {
@@ -66,7 +66,7 @@ impl TrueLiterals {
     /// Whether a literal is true.
     pub fn has(&self, l: Lit) -> bool
         requires { variable_of l < self.now.vars }
-        ensures { result ≡ is_in self.now.literals l }
+        ensures { result ≡ is_hinted_in self.now.literals l }
     {
         self.truths[l.code() as usize]
     }
@@ -94,7 +94,7 @@ impl TrueLiterals {
 }
 
 fn unset_all(truths: &mut [bool], row: &[Lit])
-    requires { (l : ℕ) → truth_at truths.old l ≡ is_in row.now l }
+    requires { (l : ℕ) → truth_at truths.old l ≡ is_hinted_in row.now l }
     ensures { (l : ℕ) → truth_at truths.new l ≡ false }
 {
     for l in row {

@@ -13,7 +13,7 @@ ghost use Rattle.am_lit.specs.Literal.{opposite_of, variable_of};
 ghost use Rattle.am_lit.specs.UnitRow.{IsConsistent};
 ghost use Rattle.am_chain.specs.ChainLaws.{IsRisingBelow};
 ghost use Rattle.am_chain.specs.Chains.{clause_of};
-ghost use Rattle.am_chain.specs.Checked.{IsAdded, all_clauses, outcome_of};
+ghost use Rattle.am_chain.specs.Checked.{IsAdded, all_clauses, chain_outcome};
 ghost use Rattle.am_chain.specs.Replay.{Refutes};
 ghost use Rattle.am_hint.specs.Hints.{propagation_fault, status_of};
 ghost use Rattle.am_hint.specs.HintReplay.{HintsRefute};
@@ -77,14 +77,14 @@ impl<'a> Translation<'a> {
     fn add(&mut self, alloc: Global, chain: &Chain) -> Result<(), AllocError>
         requires given { self.old.checker.given ≡ self.old.formula.now.clauses }
         requires clauses { length (all_clauses self.old.checker) < 2 ^ 32 - 1 }
-        requires valid { (c : List ℕ) × (outcome_of self.old.checker chain.now ≡ Ok c) }
+        requires valid { (c : List ℕ) × (chain_outcome self.old.checker chain.now ≡ Ok c) }
         requires steps { length chain.now.steps < 2 ^ 30 }
         requires rising { All (IsRisingBelow self.old.formula.now.vars) (all_clauses self.old.checker) }
         requires vars { self.old.row.vars ≡ self.old.formula.now.vars }
         requires translated { AreTranslated self.old.formula.now.vars self.old.checker self.old.numbers self.old.hints }
         ensures same { OnOk result (self.new.formula.now ≡ self.old.formula.now) }
         ensures added { OnOk result
-            (IsAdded self.old.checker self.new.checker (outcome_of self.old.checker chain.now)) }
+            (IsAdded self.old.checker self.new.checker (chain_outcome self.old.checker chain.now)) }
         ensures vars { OnOk result (self.new.row.vars ≡ self.old.row.vars) }
         ensures translated { OnOk result
             (AreTranslated self.old.formula.now.vars self.new.checker self.new.numbers self.new.hints) }
@@ -110,7 +110,7 @@ impl<'a> Translation<'a> {
 fn replay(checker: &mut Checker<'_>, chain: &Chain) -> Result<(), AllocError>
     requires clauses { length (all_clauses checker.old) < 2 ^ 32 - 1 }
     requires steps { length chain.now.steps < 2 ^ 32 }
-    ensures { OnOk result (IsAdded checker.old checker.new (outcome_of checker.old chain.now)) }
+    ensures { OnOk result (IsAdded checker.old checker.new (chain_outcome checker.old chain.now)) }
 {
     match checker.add(chain) {
         Ok(()) => Ok(()),

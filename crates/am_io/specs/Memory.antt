@@ -35,14 +35,14 @@ abbrev pub next_call : ℕ → ℕ
 next_call n = min (n + 1) (2 ^ 64 - 1)
 
 -- a `take` gave n bytes, or failed
-abbrev pub Gives : {E : Type 0} → SourceState → SourceState → Result ℕ E → Type 0
-Gives old new r = MatchResult r
+abbrev pub GivesBytes : {E : Type 0} → SourceState → SourceState → Result ℕ E → Type 0
+GivesBytes old new r = MatchResult r
     (λ n. new ≡ record old { left = drop n old.left; calls = next_call old.calls })
     (λ _. new ≡ record old { calls = next_call old.calls; faults = old.faults + 1 })
 
 -- a `put` took n bytes of a piece, or failed
-abbrev pub Takes : {E : Type 0} → SinkState → SinkState → Result ℕ E → List ℕ → Type 0
-Takes old new r piece = MatchResult r
+abbrev pub TakesBytes : {E : Type 0} → SinkState → SinkState → Result ℕ E → List ℕ → Type 0
+TakesBytes old new r piece = MatchResult r
     (λ n. new ≡ record old { taken = old.taken ++ take n piece; room = old.room - n; calls = next_call old.calls })
     (λ _. new ≡ record old { calls = next_call old.calls; faults = old.faults + 1 })
 

@@ -4,7 +4,7 @@ ghost use Rattle.std.specs.Prelude.{◌≡◌, ℕ, ◌+◌, ◌-◌, ◌<◌, �
 ghost use Rattle.std.specs.Prelude.{IfOk, OnOk, Some};
 ghost use Rattle.std.specs.Io.{ReadsAtMost};
 ghost use Rattle.std.specs.Io.KnownBytes.{Keeps, ReadConsumes, WriteAppends};
-ghost use Rattle.am_io.specs.Memory.{Finishes, Gives, Takes, new_sink, new_source};
+ghost use Rattle.am_io.specs.Memory.{Finishes, GivesBytes, TakesBytes, new_sink, new_source};
 ghost use Rattle.am_io.specs.Streams.{FailsByCount};
 
 use crate::streams::{Failed, Sink, Source};
@@ -84,7 +84,7 @@ impl Source for MemorySource {
         ensures listed { IsErr result ↔ Contains self.old.failing self.old.calls }
         ensures least { IfOk result (λ n.
             n ≡ min (min self.old.step (length into.old)) (length self.old.left)) }
-        ensures gives { Gives self.old self.new result }
+        ensures gives { GivesBytes self.old self.new result }
     {
         let call = self.calls;
         self.calls = self.calls.saturating_add(1);
@@ -186,7 +186,7 @@ impl Sink for MemorySink {
             (Contains self.old.failing self.old.calls ⊎ (self.old.room ≡ 0)) }
         ensures least { IfOk result (λ n.
             n ≡ min (min self.old.step self.old.room) (length piece.now)) }
-        ensures takes { Takes self.old self.new result piece.now }
+        ensures takes { TakesBytes self.old self.new result piece.now }
     {
         let call = self.calls;
         self.calls = self.calls.saturating_add(1);

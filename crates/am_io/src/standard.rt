@@ -1,7 +1,7 @@
 //! A source over any reader of std and a sink over any writer, such as the standard streams.
 
 ghost use Rattle.std.specs.Prelude.{◌≡◌, ◌-◌, ◌<◌, ◌^◌};
-ghost use Rattle.am_io.specs.inside.Counted.{Counts};
+ghost use Rattle.am_io.specs.inside.Counted.{CountsFaults};
 
 use crate::streams::{Failed, Sink, Source};
 use std::io::{self, Read, Write};
@@ -10,7 +10,7 @@ use std::marker::Model;
 /// Passes on what a call of std answered, and counts an error as a fault.
 fn counted<T>(answer: io::Result<T>, faults: &mut u64) -> Result<T, Failed>
     requires { faults.old < 2 ^ 64 - 1 }
-    ensures { Counts answer result faults.old faults.new }
+    ensures { CountsFaults answer result faults.old faults.new }
 {
     match answer {
         Ok(value) => Ok(value),

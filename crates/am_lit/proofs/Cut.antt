@@ -3,7 +3,7 @@ use Rattle.std.proofs.Common.{◌≡◌, ℕ, zero, suc, ◌+◌, ◌-◌, ◌<�
 use Rattle.std.proofs.Common.{refl, sym, ap, ◌∙◌, arith, length-append, length-take}
 use Rattle.std.proofs.lemmas.Grind.{common_steps}
 use Rattle.std.proofs.lemmas.List.{drop-take, take-take}
-use Rattle.am_lit.specs.inside.Rows.{rows, IsCut}
+use Rattle.am_lit.specs.inside.Rows.{rows, AreRowEnds}
 
 -- there is a row for each end
 pub length_rows : (from : ℕ) (ends all : List ℕ) → length (rows from ends all) ≡ length ends
@@ -18,28 +18,28 @@ get_or-rows from [] all i lt = absurd (omega arith)
 get_or-rows from (end ∷ ends) all zero lt = refl
 get_or-rows from (end ∷ ends) all (suc i) lt = get_or-rows end ends all i (omega arith)
 
-IsCut-le : (from : ℕ) (ends : List ℕ) (total : ℕ) → IsCut from ends total → from ≤ total
-IsCut-le from [] total h = omega arith
-IsCut-le from (end ∷ ends) total h = omega (arith, IsCut-le end ends total h.1)
+AreRowEnds-le : (from : ℕ) (ends : List ℕ) (total : ℕ) → AreRowEnds from ends total → from ≤ total
+AreRowEnds-le from [] total h = omega arith
+AreRowEnds-le from (end ∷ ends) total h = omega (arith, AreRowEnds-le end ends total h.1)
 
 -- an end is at least the one before it, and at most the total
-pub IsCut-at : (from : ℕ) (ends : List ℕ) (total : ℕ) (i : ℕ) → IsCut from ends total → i < length ends
+pub AreRowEnds-at : (from : ℕ) (ends : List ℕ) (total : ℕ) (i : ℕ) → AreRowEnds from ends total → i < length ends
     → (get_or (from ∷ ends) i 0 ≤ get_or ends i 0) × (get_or ends i 0 ≤ total)
-IsCut-at from [] total i h lt = absurd (omega arith)
-IsCut-at from (end ∷ ends) total zero h lt = (h.0, IsCut-le end ends total h.1)
-IsCut-at from (end ∷ ends) total (suc i) h lt = IsCut-at end ends total i h.1 (omega arith)
+AreRowEnds-at from [] total i h lt = absurd (omega arith)
+AreRowEnds-at from (end ∷ ends) total zero h lt = (h.0, AreRowEnds-le end ends total h.1)
+AreRowEnds-at from (end ∷ ends) total (suc i) h lt = AreRowEnds-at end ends total i h.1 (omega arith)
 
-IsCut-first : (from : ℕ) (ends : List ℕ) (total n : ℕ) → IsCut from ends total → n ≤ length ends
+AreRowEnds-first : (from : ℕ) (ends : List ℕ) (total n : ℕ) → AreRowEnds from ends total → n ≤ length ends
     → get_or (from ∷ ends) n 0 ≤ total
-IsCut-first from ends total zero h le = IsCut-le from ends total h
-IsCut-first from [] total (suc n) h le = absurd (omega arith)
-IsCut-first from (end ∷ ends) total (suc n) h le = IsCut-first end ends total n h.1 (omega arith)
+AreRowEnds-first from ends total zero h le = AreRowEnds-le from ends total h
+AreRowEnds-first from [] total (suc n) h le = absurd (omega arith)
+AreRowEnds-first from (end ∷ ends) total (suc n) h le = AreRowEnds-first end ends total n h.1 (omega arith)
 
 -- the ends of a cut list and the new total cut the longer list
-pub IsCut-push : (from : ℕ) (ends : List ℕ) (total more : ℕ) → IsCut from ends total → total ≤ more
-    → IsCut from (ends ++ more ∷ []) more
-IsCut-push from [] total more h le = (omega arith, refl)
-IsCut-push from (end ∷ ends) total more h le = (h.0, IsCut-push end ends total more h.1 le)
+pub AreRowEnds-push : (from : ℕ) (ends : List ℕ) (total more : ℕ) → AreRowEnds from ends total → total ≤ more
+    → AreRowEnds from (ends ++ more ∷ []) more
+AreRowEnds-push from [] total more h le = (omega arith, refl)
+AreRowEnds-push from (end ∷ ends) total more h le = (h.0, AreRowEnds-push end ends total more h.1 le)
 
 piece-append : (from end : ℕ) (all new : List ℕ) → from ≤ end → end ≤ length all
     → take (end - from) (drop from (all ++ new)) ≡ take (end - from) (drop from all)
@@ -50,19 +50,19 @@ rest : (from : ℕ) (all new : List ℕ) → from ≡ length all
 rest from all new h = grind (arith, common_steps)
 
 -- a list with more literals, and their end, has one row more: these literals
-pub rows-push : (from : ℕ) (ends all new : List ℕ) → IsCut from ends (length all)
+pub rows-push : (from : ℕ) (ends all new : List ℕ) → AreRowEnds from ends (length all)
     → rows from (ends ++ (length all + length new) ∷ []) (all ++ new) ≡ rows from ends all ++ new ∷ []
 rows-push from [] all new h = ap (λ r. r ∷ []) (rest from all new h)
 rows-push from (end ∷ ends) all new h =
-    rw (piece-append from end all new h.0 (IsCut-le end ends (length all) h.1))
+    rw (piece-append from end all new h.0 (AreRowEnds-le end ends (length all) h.1))
     (ap (λ r. take (end - from) (drop from all) ∷ r) (rows-push end ends all new h.1))
 
 -- the first ends cut the list where the last of them is
-pub IsCut-take : (from : ℕ) (ends : List ℕ) (total n : ℕ) → IsCut from ends total → n ≤ length ends
-    → IsCut from (take n ends) (get_or (from ∷ ends) n 0)
-IsCut-take from ends total zero h le = refl
-IsCut-take from [] total (suc n) h le = absurd (omega arith)
-IsCut-take from (end ∷ ends) total (suc n) h le = (h.0, IsCut-take end ends total n h.1 (omega arith))
+pub AreRowEnds-take : (from : ℕ) (ends : List ℕ) (total n : ℕ) → AreRowEnds from ends total → n ≤ length ends
+    → AreRowEnds from (take n ends) (get_or (from ∷ ends) n 0)
+AreRowEnds-take from ends total zero h le = refl
+AreRowEnds-take from [] total (suc n) h le = absurd (omega arith)
+AreRowEnds-take from (end ∷ ends) total (suc n) h le = (h.0, AreRowEnds-take end ends total n h.1 (omega arith))
 
 piece-take : (from end stop : ℕ) (all : List ℕ) → from ≤ end → end ≤ stop
     → take (end - from) (drop from (take stop all)) ≡ take (end - from) (drop from all)
@@ -73,7 +73,7 @@ piece-take from end stop all h le =
     ap (take (end - from)) inner ∙ take-take (end - from) (stop - from) (drop from all) (omega arith)
 
 -- the first ends, with the literals up to the last of them, have the first rows
-pub rows-take : (from : ℕ) (ends all : List ℕ) (total n stop : ℕ) → IsCut from ends total → n ≤ length ends
+pub rows-take : (from : ℕ) (ends all : List ℕ) (total n stop : ℕ) → AreRowEnds from ends total → n ≤ length ends
     → get_or (from ∷ ends) n 0 ≤ stop
     → rows from (take n ends) (take stop all) ≡ take n (rows from ends all)
 rows-take from ends all total zero stop h le s = refl
@@ -81,17 +81,18 @@ rows-take from [] all total (suc n) stop h le s = absurd (omega arith)
 rows-take from (end ∷ ends) all total (suc n) stop h le s =
     let reach : end ≤ stop = omega (
       arith,
-      IsCut-le end (take n ends) (get_or (end ∷ ends) n 0) (IsCut-take end ends total n h.1 (omega arith)),
+      AreRowEnds-le end (take n ends) (get_or (end ∷ ends) n 0) (AreRowEnds-take end ends total n h.1 (omega arith)),
     ) in
     rw (piece-take from end stop all h.0 reach)
     (ap (λ r. take (end - from) (drop from all) ∷ r) (rows-take end ends all total n stop h.1 (omega arith) s))
 
 -- a push of the new row's literals and of their end
 module _ (ends lits new ends' lits' : List ℕ) (n : ℕ) (e : ends' ≡ ends ++ n ∷ []) (l : lits' ≡ lits ++ new)
-    (h : n ≡ length lits') (cut : IsCut 0 ends (length lits)) where
+    (h : n ≡ length lits') (cut : AreRowEnds 0 ends (length lits)) where
   -- the ends still cut the literals
-  pub IsCut-pushed : IsCut 0 ends' (length lits')
-  IsCut-pushed = rw (e, h) (IsCut-push 0 ends (length lits) (length lits') cut (rw (l, length-append) (omega arith)))
+  pub IsCut-pushed : AreRowEnds 0 ends' (length lits')
+  IsCut-pushed = rw (e, h) (AreRowEnds-push 0 ends (length lits) (length lits') cut
+      (rw (l, length-append) (omega arith)))
 
   -- the new row stands after the others
   pub rows-pushed : rows 0 ends' lits' ≡ rows 0 ends lits ++ new ∷ []
@@ -99,15 +100,15 @@ module _ (ends lits new ends' lits' : List ℕ) (n : ℕ) (e : ends' ≡ ends ++
 
 -- a cut of the ends, and of the literals after the last of them
 module _ (ends lits ends' lits' : List ℕ) (len stop : ℕ) (e : ends' ≡ take len ends) (l : lits' ≡ take stop lits)
-    (h : stop ≡ get_or (0 ∷ ends) len 0) (inside : len ≤ length ends) (cut : IsCut 0 ends (length lits)) where
+    (h : stop ≡ get_or (0 ∷ ends) len 0) (inside : len ≤ length ends) (cut : AreRowEnds 0 ends (length lits)) where
   stop-le : stop ≤ length lits
-  stop-le = rw h (IsCut-first 0 ends (length lits) len cut inside)
+  stop-le = rw h (AreRowEnds-first 0 ends (length lits) len cut inside)
 
   -- the ends still cut the literals
-  pub IsCut-cut : IsCut 0 ends' (length lits')
+  pub IsCut-cut : AreRowEnds 0 ends' (length lits')
   IsCut-cut =
       let same : length lits' ≡ get_or (0 ∷ ends) len 0 = rw (l, length-take) (omega (arith, stop-le)) in
-      rw (same, e) (IsCut-take 0 ends (length lits) len cut inside)
+      rw (same, e) (AreRowEnds-take 0 ends (length lits) len cut inside)
 
   -- the first rows are left
   pub rows-cut : rows 0 ends' lits' ≡ take len (rows 0 ends lits)

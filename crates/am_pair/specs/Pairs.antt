@@ -21,8 +21,8 @@ abbrev pub second : List ℕ → List ℕ
 second p = drop 2 p
 
 -- both parts are values, and the first part's field 0 is a member of the second; the members are those of both
-abbrev pub pairs : Meaning → Meaning → Meaning
-pairs a b = record {
+abbrev pub meaning_product : Meaning → Meaning → Meaning
+meaning_product a b = record {
   fields = 2 + b.fields;
   Valid = λ w p. a.Valid w (first p) × b.Valid w (second p) × b.Member w (second p) (slice_index p 0);
   Member = λ w p c. a.Member w (first p) c × b.Member w (second p) c;
@@ -73,9 +73,9 @@ pair_member_term a b w =
     ternary Ite first second (Const 0)
 
 -- the product of two domains
-abbrev pub product : Abstraction → Abstraction → Abstraction
-product a b = record {
-  meaning = pairs a.meaning b.meaning;
+abbrev pub domain_product : Abstraction → Abstraction → Abstraction
+domain_product a b = record {
+  meaning = meaning_product a.meaning b.meaning;
   top = λ w. a.top w ++ b.top w;
   of_word = λ w c. a.of_word w c ++ b.of_word w c;
   some_member = λ w p. slice_index p 0;

@@ -3,7 +3,7 @@
 ghost use Rattle.std.specs.Prelude.{◌≡◌, ◌^◌, ◌<◌, ◌≤◌};
 ghost use Rattle.std.specs.Option.{ForSome};
 ghost use Rattle.am_domain.specs.Meaning.{IsAbstract};
-ghost use Rattle.am_pair.specs.Pairs.{common, hull_of_words, product};
+ghost use Rattle.am_pair.specs.Pairs.{common, domain_product, hull_of_words};
 ghost use Rattle.am_pair.specs.inside.Hulls.{hull_with, IsHull};
 ghost use Rattle.am_pair.specs.lemmas.PairLaws.{product_laws};
 ghost use Rattle.am_pair.specs.lemmas.Parts.{paired};
@@ -71,7 +71,7 @@ impl<A: Anchored, B: Domain> Pair<A, B> {
 }
 
 impl<A: Anchored, B: Domain> Domain for Pair<A, B> {
-    ghost abstraction = { λ d. product (A.abstraction d.a) (B.abstraction d.b) };
+    ghost abstraction = { λ d. domain_product (A.abstraction d.a) (B.abstraction d.b) };
 
     fn fields(&self) -> u32 {
         2 + self.b.fields()

@@ -29,7 +29,7 @@ use Rattle.am_problem.proofs.Inputs.{results_are_values}
 use Rattle.am_problem.specs.ExampleLaws.{DerivableTermsFit, OperationsGiveWords, ResultsAreTuples, RowsAreShort}
 use Rattle.am_problem.specs.Examples.{all_fields, IsTransformer}
 use Rattle.am_problem.specs.Kinds.{fields_of}
-use Rattle.am_problem.specs.Limits.{IsFormed, IsOver}
+use Rattle.am_problem.specs.Limits.{IsFormed, IsLeafOver}
 use Rattle.am_problem.specs.Problem.{AreDerivable, Problem}
 use Rattle.am_problem.specs.lemmas.KindLaws.{laws_of}
 
@@ -79,7 +79,7 @@ module _ (p : Problem) (formed : IsFormed p) where
 
   -- a production of the language is one of a grammar, and over the fields
   abbrev IsProduction : Production → Type 0
-  IsProduction q = IsTrue (is_production (length p.rules) q) × IsOver p.width (all_fields p) q
+  IsProduction q = IsTrue (is_production (length p.rules) q) × IsLeafOver p.width (all_fields p) q
 
   production-is : (n i : ℕ) (q : Production) → production_at p.rules n i ≡ Some q → IsProduction q
   production-is = at-production IsProduction p.rules

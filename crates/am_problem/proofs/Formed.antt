@@ -13,7 +13,7 @@ use Rattle.am_bv.specs.Terms.{fits, nodes}
 use Rattle.am_bv.specs.declared.term.Term.{Term}
 use Rattle.am_syntax.specs.Numerals.{is_name}
 use Rattle.am_syntax.specs.Readers.{Word}
-use Rattle.am_syntax.specs.Spelling.{IsWithin, Scope}
+use Rattle.am_syntax.specs.Spelling.{IsTermWithin, Scope}
 use Rattle.am_syntax.specs.declared.limits.Letter.{Letter}
 use Rattle.am_syntax.specs.declared.limits.Letter.TheVariants.{X, F}
 use Rattle.am_bv.proofs.Laws.{fits-arities}
@@ -22,9 +22,9 @@ use Rattle.am_tree.proofs.Laws.{leaf-small, small-leaf}
 use Rattle.am_tree.specs.Trees.{Rules}
 use Rattle.am_tree.specs.declared.grammar.Production.{Production as Numbered}
 use Rattle.am_tree.specs.declared.grammar.Production.TheVariants.{Leaf, Node}
-use Rattle.am_problem.specs.Grammar.{has_name, made, names_of, scope_at}
+use Rattle.am_problem.specs.Grammar.{has_name, names_of, productions_of_rules, scope_at}
 use Rattle.am_problem.specs.Kinds.{fields_of}
-use Rattle.am_problem.specs.Limits.{IsFormed, IsOperation, IsOver}
+use Rattle.am_problem.specs.Limits.{IsFormed, IsLeafOver, IsOperation}
 use Rattle.am_problem.specs.Lines.{Lines, Production, Rule, leaf, node}
 use Rattle.am_problem.specs.Problem.{Problem}
 use Rattle.am_problem.specs.Texts.{name_at, named, named_production, named_rules, number_in, numbered}
@@ -145,11 +145,11 @@ module _ (scope : Scope) (names : List Word) (count : ℕ) (each : length names 
       at (p ∷ ps) is known = (production_in p is.0 known.0, at ps is.1 known.1)
 
   leaves_in : (ps : List Production) → AllByRecursion (IsProduction scope) ps →
-      All (IsOver scope.width scope.variables) (map (numbered_production names) ps)
+      All (IsLeafOver scope.width scope.variables) (map (numbered_production names) ps)
   leaves_in ps is = all_places _ _ (at ps is)
     where
       at : (ps : List Production) → AllByRecursion (IsProduction scope) ps →
-          AllByRecursion (IsOver scope.width scope.variables) (map (numbered_production names) ps)
+          AllByRecursion (IsLeafOver scope.width scope.variables) (map (numbered_production names) ps)
       at [] is = tt
       at (leaf t ∷ ps) is = (is.0.fit, at ps is.1)
       at (node op args ∷ ps) is = (tt, at ps is.1)
@@ -164,11 +164,11 @@ module _ (scope : Scope) (names : List Word) (count : ℕ) (each : length names 
       at (r ∷ rs) is known = (productions_in r.productions is.0.productions known.0, at rs is.1 known.1)
 
   all_leaves_in : (rs : List Rule) → AllByRecursion (IsRule scope) rs →
-      All (All (IsOver scope.width scope.variables)) (numbered_rules names rs)
+      All (All (IsLeafOver scope.width scope.variables)) (numbered_rules names rs)
   all_leaves_in rs is = all_places _ _ (at rs is)
     where
       at : (rs : List Rule) → AllByRecursion (IsRule scope) rs →
-          AllByRecursion (All (IsOver scope.width scope.variables)) (numbered_rules names rs)
+          AllByRecursion (All (IsLeafOver scope.width scope.variables)) (numbered_rules names rs)
       at [] is = tt
       at (r ∷ rs) is = (leaves_in r.productions is.0.productions, at rs is.1)
 
@@ -176,7 +176,7 @@ module _ (scope : Scope) (names : List Word) (count : ℕ) (each : length names 
   starts_in [] h = tt
   starts_in (v ∷ vs) h = (omega (arith, number_below names v h.0, each), starts_in vs h.1)
 
-made_numbered : (names : List Word) (rs : List Rule) → sum_by length (numbered_rules names rs) ≡ made rs
+made_numbered : (names : List Word) (rs : List Rule) → sum_by length (numbered_rules names rs) ≡ productions_of_rules rs
 made_numbered names [] = refl
 made_numbered names (r ∷ rs) =
     sum_by-cons length (map (numbered_production names) r.productions) (numbered_rules names rs)
@@ -189,7 +189,7 @@ rule_names : (scope : Scope) (rs : List Rule) → AllByRecursion (IsRule scope) 
 rule_names scope [] h = tt
 rule_names scope (r ∷ rs) h = (h.0.name, rule_names scope rs h.1)
 
-assumed : (w n : ℕ) (o : Option Term) → IfSome o (IsWithin (scope_at w X n) 64 64) → IfSome o (IsOperation w n)
+assumed : (w n : ℕ) (o : Option Term) → IfSome o (IsTermWithin (scope_at w X n) 64 64) → IfSome o (IsOperation w n)
 assumed w n None h = tt
 assumed w n (Some t) h = record { fit = h.fit; small = h.few }
 
@@ -242,14 +242,14 @@ names_are names all [] h = tt
 names_are names all (n ∷ ns) h = (name_is names all n h.0, names_are names all ns h.1)
 
 made_named : (names vs : List Word) (rules : Rules) → length vs ≡ length rules →
-    made (named_rules names vs rules) ≡ sum_by length rules
+    productions_of_rules (named_rules names vs rules) ≡ sum_by length rules
 made_named names [] [] each = refl
 made_named names [] (ps ∷ rules) each = absurd (omega (arith, each))
 made_named names (v ∷ vs) [] each = absurd (omega (arith, each))
 made_named names (v ∷ vs) (ps ∷ rules) each =
     sum_by-cons (λ (r : Rule). length r.productions)
     (record { name = v; productions = map (named_production names) ps }) (named_rules names vs rules)
-    ∙ ap (λ n. n + made (named_rules names vs rules)) (length-map ps (named_production names))
+    ∙ ap (λ n. n + productions_of_rules (named_rules names vs rules)) (length-map ps (named_production names))
     ∙ ap (λ n. length ps + n) (made_named names vs rules (omega (arith, each)))
     ∙ sym (sum_by-cons length ps rules)
 
@@ -261,11 +261,11 @@ long_named names (v ∷ vs) [] each = absurd (omega (arith, each))
 long_named names (v ∷ vs) (ps ∷ rules) each = omega (arith, long_named names vs rules (omega (arith, each)))
 
 within : (w n most : ℕ) (letter : Letter) (t : Term) → IsTrue (fits w n t) → nodes t ≤ most →
-    IsWithin (scope_at w letter n) most most t
+    IsTermWithin (scope_at w letter n) most most t
 within w n most letter t fit few = record { fit = fit; few = few; flat = omega (arith, nesting_few t, few) }
 
 module _ (scope : Scope) (names : List Word) (all : All (λ v. IsTrue (is_name v)) names) where
-  production_is : (p : Numbered) → IsTrue (is_production (length names) p) → IsOver scope.width scope.variables p →
+  production_is : (p : Numbered) → IsTrue (is_production (length names) p) → IsLeafOver scope.width scope.variables p →
       IsProduction scope (named_production names p)
   production_is (Leaf t) is over =
       let few : nodes t ≤ 64 = leaf-small (length names) t is in
@@ -276,14 +276,14 @@ module _ (scope : Scope) (names : List Word) (all : All (λ v. IsTrue (is_name v
   )
 
   productions_are : (ps : List Numbered) → AreProductions (length names) ps →
-      AllByRecursion (IsOver scope.width scope.variables) ps →
+      AllByRecursion (IsLeafOver scope.width scope.variables) ps →
       AllByRecursion (IsProduction scope) (map (named_production names) ps)
   productions_are [] is over = tt
   productions_are (p ∷ ps) is over = (production_is p is.0 over.0, productions_are ps is.1 over.1)
 
   rules_are : (vs : List Word) (rules : Rules) → AllByRecursion (λ v. IsTrue (is_name v)) vs →
       AllByRecursion (AreProductions (length names)) rules →
-      AllByRecursion (All (IsOver scope.width scope.variables)) rules →
+      AllByRecursion (All (IsLeafOver scope.width scope.variables)) rules →
       AllByRecursion (IsRule scope) (named_rules names vs rules)
   rules_are [] rules called is over = tt
   rules_are (v ∷ vs) [] called is over = tt
@@ -292,7 +292,7 @@ module _ (scope : Scope) (names : List Word) (all : All (λ v. IsTrue (is_name v
     rules_are vs rules called.1 is.1 over.1,
   )
 
-assumed_back : (w n : ℕ) (o : Option Term) → IfSome o (IsOperation w n) → IfSome o (IsWithin (scope_at w X n) 64 64)
+assumed_back : (w n : ℕ) (o : Option Term) → IfSome o (IsOperation w n) → IfSome o (IsTermWithin (scope_at w X n) 64 64)
 assumed_back w n None h = tt
 assumed_back w n (Some t) h = within w n 64 X t h.fit h.small
 

@@ -12,7 +12,8 @@ use Rattle.am_bv.specs.Words.{IsWidth}
 use Rattle.am_bv.specs.declared.op.Op.{Op}
 use Rattle.am_bv.specs.declared.term.Term.TheVariants.{Const, Field}
 use Rattle.am_domain.specs.Question.{IsMember, IsSound}
-use Rattle.am_problem.specs.Generator.{HasSound, argument_operator, field_operators, made, made_depth, made_kind}
+use Rattle.am_problem.specs.Generator.{HasSound, argument_operator, field_operators, made_depth, made_kind}
+use Rattle.am_problem.specs.Generator.{made_problem_of}
 use Rattle.am_problem.specs.Generator.{made_operation, made_operations, made_operator, made_operators, made_width}
 use Rattle.am_problem.specs.Kinds.{abstraction_of, fields_of}
 use Rattle.am_problem.specs.Limits.{IsFormed, IsOperation, IsProblem}
@@ -67,7 +68,7 @@ operation_light w few op = simp (weight-binary, weight-Field) (omega (arith, wei
 -- ---- the problem
 
 -- the problem of each number is within all limits
-pub made-problem : (n : ℕ) → IsProblem (made n)
+pub made-problem : (n : ℕ) → IsProblem (made_problem_of n)
 made-problem n =
     let width = made_width-width n in
     let kind = handled n in
@@ -114,9 +115,9 @@ top_sound p formed inputs are words members assumed =
     subst (λ a. IsMember q a (q.operation words)) (sym (constants_hold p.width (concat inputs) top)) covers
 
 -- the problem of each number has a sound transformer
-pub made-sound : (n : ℕ) → HasSound (made n)
+pub made-sound : (n : ℕ) → HasSound (made_problem_of n)
 made-sound n = record {
   terms = map Const ((abstraction_of (made_kind n)).top (made_width n));
   derivable = (handled n).small.constants;
-  sound = top_sound (made n) (made-problem n).formed;
+  sound = top_sound (made_problem_of n) (made-problem n).formed;
 }

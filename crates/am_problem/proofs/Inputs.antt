@@ -12,7 +12,7 @@ use Rattle.am_problem.proofs.Cutting.{split-concat}
 use Rattle.am_problem.specs.ExampleLaws.{InputsAreCut, InputsAreParts, InputsAreTuples, MembersAreWords}
 use Rattle.am_problem.specs.ExampleLaws.{ResultsAreValues, RowsAreInputs, RowsAreJoined, TrueExamplesAreStored}
 use Rattle.am_problem.specs.ExampleLaws.{TuplesAreCut, ValidExamplesAreStored, WordsAreMembers}
-use Rattle.am_problem.specs.Examples.{inputs_of, IsRow}
+use Rattle.am_problem.specs.Examples.{inputs_of, IsFieldRow}
 use Rattle.am_problem.specs.Kinds.{fields_of, meaning_of}
 use Rattle.am_problem.specs.Problem.{Problem, question_of}
 
@@ -64,14 +64,14 @@ pub results_are_values : ResultsAreValues
 results_are_values p terms row is = ap (λ env. map (λ t. val p.width t env) terms) (rows_are_joined p row is)
 
 -- the input at a place is a tuple
-pub input-tuple : (p : Problem) (row : List ℕ) (i : ℕ) (a : List ℕ) → IsRow p row → i < p.inputs →
+pub input-tuple : (p : Problem) (row : List ℕ) (i : ℕ) (a : List ℕ) → IsFieldRow p row → i < p.inputs →
     a ≡ get_or (inputs_of p row) i [] → IsTuple p.width (fields_of p.kind) a
 input-tuple p row i a is below e =
     let tuples = inputs_are_tuples p row is in
     rw e (tuples.1 i [] (omega (arith, tuples.0)))
 
 -- inputs of which each is valid are abstract values
-pub valid-inputs : (p : Problem) (row : List ℕ) → IsRow p row →
+pub valid-inputs : (p : Problem) (row : List ℕ) → IsFieldRow p row →
     ((k : ℕ) → k < p.inputs → (meaning_of p.kind).Valid p.width (get_or (inputs_of p row) k [])) →
     AreInputs (question_of p) (inputs_of p row)
 valid-inputs p row is each = (rows_are_inputs p row is).1 (λ i d below.

@@ -5,22 +5,23 @@ use Rattle.std.proofs.lemmas.Bool.{ltb-false, ltb-true}
 use Rattle.am_text.specs.Tokens.{Placed, bad_byte, tokens_at, text_left}
 use Rattle.am_syntax.proofs.Laws.{text_found}
 use Rattle.am_syntax.specs.Readers.{Read, Word}
-use Rattle.am_syntax.specs.Texts.{ended, opened, refusal_at, text_value, whole}
+use Rattle.am_syntax.specs.Texts.{ended, opened, read_whole, refusal_at, text_value, whole}
 use Rattle.am_syntax.specs.declared.refusal.Cause.{Cause}
 use Rattle.am_syntax.specs.declared.refusal.Cause.TheVariants as cause
 use Rattle.am_syntax.specs.declared.refusal.Refusal.{Refusal}
-use Rattle.am_syntax.specs.declared.refusal.Refusal.TheVariants.{Load, Slots, Syntax, Undefined}
+use Rattle.am_syntax.specs.declared.refusal.Refusal.TheVariants.{Load, Slots, Undefined}
 use Rattle.am_problem.specs.Grammar.{names_of, problem}
 use Rattle.am_problem.specs.Limits.{slots_of}
 use Rattle.am_problem.specs.Lines.{Lines}
 use Rattle.am_problem.specs.Loads.{load_of}
 use Rattle.am_problem.specs.Problem.{Problem}
 use Rattle.am_problem.specs.Refusals.{HasLoad, HasSlots, IsFirstUndefined, IsOfLines, IsUndefinedAt}
-use Rattle.am_problem.specs.Texts.{all_settled, drafted, is_undefined, numbered, problem_of, settled_by, undefined_in}
+use Rattle.am_problem.specs.Texts.{is_undefined, numbered, problem_of, settled_by, settled_problem_of, undefined_in}
+use Rattle.am_problem.proofs.FirstUndefined.{undefined-cons, undefined-nil}
 use Rattle.am_problem.proofs.LineLaws.{problem_law}
 use Rattle.am_problem.proofs.LineLimits.{lines_good}
 use Rattle.am_problem.proofs.PrintingLaws.{rows_spelled}
-use Rattle.am_problem.proofs.TextLaws.{formed_text}
+use Rattle.am_problem.proofs.TextLaws.{drafted, formed_text, problem_of_lines}
 
 -- ---- refusals of bytes and tokens
 
@@ -47,12 +48,12 @@ early_whole : (read : Read Lines) → IsEarlyAnswer (whole read)
 early_whole (Ok x) = early_end x.0 x.1.tokens
 early_whole (Err stop) = early_cause stop.0 _
 
-early_opened : (text : List ℕ) (bad : Option ℕ) → IsEarlyAnswer (opened problem text bad)
+early_opened : (text : List ℕ) (bad : Option ℕ) → IsEarlyAnswer (opened problem.read text bad)
 early_opened text (Some place) = tt
 early_opened text None = early_whole (problem.read (text_left text))
 
 early_value : (text : List ℕ) → IsEarlyAnswer (text_value problem text)
-unfolding text_value
+unfolding read_whole
 early_value text = early_opened text (bad_byte text)
 
 -- ---- the lines of a text
@@ -93,10 +94,11 @@ found_here names t ts place false false end undefined later found =
 
 first_found : (names : List Word) (tokens : List Placed) (place : ℕ) → undefined_in names tokens ≡ Some place →
     IsFirstUndefined names tokens place
-first_found names [] place found = absurd cc
+first_found names [] place found =
+    absurd (let e : ◌≡◌ {A = Option ℕ} None (Some place) = sym (undefined-nil names) ∙ found in cc)
 first_found names (t ∷ ts) place found =
     found_here names t ts place (bytes_eq t.word (codes "end")) (is_undefined names t.word) refl refl
-    (first_found names ts place) found
+    (first_found names ts place) (sym (undefined-cons names t ts) ∙ found)
 
 -- ---- what is answered of lines
 
@@ -142,7 +144,7 @@ module _ (text : List ℕ) where
 
   undefined_in_text : (place : ℕ) (value : Result Lines Refusal) → text_value problem text ≡ value →
       IsEarlyAnswer value →
-      all_settled (drafted text value) ≡ Err (Undefined place) → IsUndefinedAt text place
+      settled_problem_of (drafted text value) ≡ Err (Undefined place) → IsUndefinedAt text place
   undefined_in_text place (Ok l) is early e = undefined_so l place (undefined_of l) refl is e
   undefined_in_text place (Err (Undefined at)) is early e = absurd early
   undefined_in_text place (Err _) is early e = absurd cc
@@ -163,7 +165,7 @@ module _ (text : List ℕ) where
       }
 
   slots_in_text : (n : ℕ) (value : Result Lines Refusal) → text_value problem text ≡ value → IsEarlyAnswer value →
-      all_settled (drafted text value) ≡ Err (Slots n) → HasSlots text n
+      settled_problem_of (drafted text value) ≡ Err (Slots n) → HasSlots text n
   slots_in_text n (Ok l) is early e = slots_so l n (undefined_of l) refl is e
   slots_in_text n (Err (Slots at)) is early e = absurd early
   slots_in_text n (Err _) is early e = absurd cc
@@ -185,7 +187,7 @@ module _ (text : List ℕ) where
       }
 
   load_in_text : (n : ℕ) (value : Result Lines Refusal) → text_value problem text ≡ value → IsEarlyAnswer value →
-      all_settled (drafted text value) ≡ Err (Load n) → HasLoad text n
+      settled_problem_of (drafted text value) ≡ Err (Load n) → HasLoad text n
   load_in_text n (Ok l) is early e = load_so l n (undefined_of l) refl is e
   load_in_text n (Err (Load at)) is early e = absurd early
   load_in_text n (Err _) is early e = absurd cc
@@ -194,12 +196,15 @@ module _ (text : List ℕ) where
 
   -- a name without a rule is refused after all tokens
   pub undefined_last : (place : ℕ) → problem_of text ≡ Err (Undefined place) → IsUndefinedAt text place
-  undefined_last place e = undefined_in_text place (text_value problem text) refl (early_value text) e
+  undefined_last place e =
+      undefined_in_text place (text_value problem text) refl (early_value text) (sym (problem_of_lines text) ∙ e)
 
   -- the slots are refused after all names
   pub slots_last : (n : ℕ) → problem_of text ≡ Err (Slots n) → HasSlots text n
-  slots_last n e = slots_in_text n (text_value problem text) refl (early_value text) e
+  slots_last n e =
+      slots_in_text n (text_value problem text) refl (early_value text) (sym (problem_of_lines text) ∙ e)
 
   -- the load is refused after the slots
   pub load_last : (n : ℕ) → problem_of text ≡ Err (Load n) → HasLoad text n
-  load_last n e = load_in_text n (text_value problem text) refl (early_value text) e
+  load_last n e =
+      load_in_text n (text_value problem text) refl (early_value text) (sym (problem_of_lines text) ∙ e)

@@ -15,5 +15,5 @@ pub use Rattle.am_problem.proofs.Formed.{lines_of_formed}
 pub use Rattle.am_problem.proofs.DraftLaws.{draft_advances, IsDraftOf, draft_takes, HasDraft, draft_again}
 pub use Rattle.am_problem.proofs.Printed.{few_variables}
 pub use Rattle.am_problem.proofs.PrintingLaws.{is_plain, plain_token, number_tokens, both_tokens, rows_tokens}
-pub use Rattle.am_problem.specs.Printing.{joined}
+pub use Rattle.am_problem.specs.Printing.{joined_rows_of}
 pub use Rattle.am_problem.proofs.PrintingLaws.{joined-append, rows_spelled}

@@ -3,9 +3,11 @@ pub mod Finds
 pub mod Seen
 pub mod Lists
 pub mod KindLaws
+pub mod RefusedProductions
 pub mod ProblemLaws
 pub mod LineLaws
 pub mod LineLimits
+pub mod FirstUndefined
 pub mod Undefined
 pub mod Nesting
 pub mod Named

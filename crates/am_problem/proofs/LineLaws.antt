@@ -6,11 +6,10 @@ use Rattle.am_syntax.specs.declared.limits.Letter.TheVariants.{X, F}
 use Rattle.am_problem.specs.Kinds.{fields_of}
 use Rattle.am_problem.specs.lemmas.KindLaws.{laws_of}
 use Rattle.am_syntax.specs.Spelling.{IsScope}
-use Rattle.am_syntax.specs.Pieces.{number, syntax}
-use Rattle.am_problem.specs.Grammar.{late}
+use Rattle.am_syntax.specs.Pieces.{name_too_many, number, syntax, too_early}
 use Rattle.am_problem.specs.Lines.{Header}
 use Rattle.am_problem.specs.Grammar.{HeaderParts, budgets, budgets_of, budgets_parts, lines_of, lines_parts, header}
-use Rattle.am_problem.specs.Grammar.{header_of, header_parts, no_name_more, problem, scope_at, starts}
+use Rattle.am_problem.specs.Grammar.{header_of, header_parts, problem, scope_at, starts}
 use Rattle.am_problem.proofs.KindLaws.{domain_law}
 use Rattle.am_syntax.proofs.Laws.{times_law}
 use Rattle.am_syntax.specs.Exact.{IsExact, WithoutKey, always}
@@ -43,14 +42,15 @@ header_law =
 -- so is the line of the starts
 pub starts_law : (k : ℕ) → IsExact (starts k) always
 unfolding starts
-starts_law k = keyed_law syntax (codes "start") (times_law (λ seen. name_law (late (codes "depth"))) (λ _ _ _ _. tt) k)
+starts_law k =
+    keyed_law syntax (codes "start") (times_law (λ seen. name_law (too_early (codes "depth"))) (λ _ _ _ _. tt) k)
 
 -- so are the lines of what may be spent
 pub budgets_law : IsExact budgets always
 unfolding budgets
 budgets_law =
     seen_law budgets_of budgets_parts
-    (then_law (keyed_law no_name_more (codes "depth") (number_law 1 5 (lit< tt))) (λ _ _.
+    (then_law (keyed_law name_too_many (codes "depth") (number_law 1 5 (lit< tt))) (λ _ _.
     then_law (keyed_law syntax (codes "turns") (number_law 0 4096 (lit< tt))) (λ _ _.
     keyed_law syntax (codes "conflicts") (number_law 1 1000000 (lit< tt)))
     (λ _ _ _ _ _ _. tt)) (λ _ _ _ _ _ _. tt))

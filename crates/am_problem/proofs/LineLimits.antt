@@ -4,7 +4,7 @@ use Rattle.std.proofs.Common.{◌∷◌, ◌++◌, length, codes, Option, Some, 
 use Rattle.std.proofs.Common.{length-append, lit≤}
 use Rattle.std.specs.Prelude.{IfSome}
 use Rattle.std.specs.List.{AllByRecursion}
-use Rattle.std.proofs.lemmas.Bool.{ne_eqb}
+use Rattle.std.proofs.lemmas.Bool.{lt-ltb, ltb-true, ne_eqb}
 use Rattle.std.proofs.lemmas.List.{append-nil}
 use Rattle.std.proofs.lemmas.List.Sums.{sum_by-append}
 use Rattle.am_bv.specs.Terms.{nodes}
@@ -13,13 +13,14 @@ use Rattle.am_bv.proofs.Laws.{by_induction, nodes-Const, nodes-Field, nodes-Node
 use Rattle.am_syntax.specs.declared.limits.Letter.TheVariants.{X, F}
 use Rattle.am_syntax.specs.Spelling.{Scope}
 use Rattle.am_problem.specs.Kinds.{fields_of}
-use Rattle.am_syntax.specs.Pieces.{good_from, name_or, number, optional_good}
-use Rattle.am_problem.specs.LineLimits.{AreNonterminals, AreRules, IsLines, IsProduction, IsRule, OnceEach}
+use Rattle.am_syntax.specs.Pieces.{good_from, key_or, name_or, number, optional_good}
+use Rattle.am_problem.specs.LineLimits.{AreLineRules, AreNonterminals, IsLines, IsProduction, IsRule, OnceEach}
 use Rattle.am_problem.specs.Lines.{Lines, Production, Rule, leaf, node}
-use Rattle.am_problem.specs.Grammar.{name_before, budgets, header, made, node_production, opening, problem, production}
+use Rattle.am_problem.specs.Grammar.{name_before, budgets, header, productions_of_rules, node_production, problem}
+use Rattle.am_problem.specs.Grammar.{production}
 use Rattle.am_problem.specs.Grammar.{productions, rule, rule_name, rules, scope_at, small_term, starts}
 use Rattle.am_syntax.specs.Readers.{Word}
-use Rattle.am_syntax.specs.Spelling.{IsWithin}
+use Rattle.am_syntax.specs.Spelling.{IsTermWithin}
 use Rattle.am_syntax.specs.Names.{operator}
 use Rattle.am_problem.specs.Grammar.{domain}
 
@@ -52,12 +53,12 @@ one_node t = by_induction (λ t. 0 < nodes t) (record {
 production_good : (scope : Scope) (room : ℕ) (p : Production) → ((t : Term) → 0 < nodes t) →
     (production scope room).Good p →
     Fits scope room p
-unfolding production node_production opening operator
+unfolding production node_production key_or operator
 production_good scope room (leaf t) one good =
     let r = room_is room (nodes t) (one t) good.few in
     record { fit = record { fit = good.fit; few = r.1; flat = good.flat }; some = r.0 }
 production_good scope room (node op names) one good =
-    record { fit = (good.1.1.0, names_good (codes ")") [] names good.1.1.1); some = good.0 }
+    record { fit = (good.1.1.0, names_good (codes ")") [] names good.1.1.1); some = ltb-true 0 room good.0.0 }
 
 record AreFew (scope : Scope) (room : ℕ) (before ps : List Production) : Type 0 where
   each : AllByRecursion (IsProduction scope) ps
@@ -76,7 +77,8 @@ productions_good scope room one before (p ∷ ps) h good =
 sum_by-one : {A : Type 0} (f : A → ℕ) (x : A) → sum_by f (x ∷ []) ≡ f x
 sum_by-one f x = omega arith
 
-more_made : (seen : List Rule) (r : Rule) → made (seen ++ r ∷ []) ≡ made seen + length r.productions
+more_made : (seen : List Rule) (r : Rule) → productions_of_rules (seen ++ r ∷ []) ≡ productions_of_rules seen + length
+    r.productions
 more_made seen r = omega (
   arith,
   sum_by-append (λ (r : Rule). length r.productions) seen (r ∷ []),
@@ -89,14 +91,14 @@ again seen r rs = append_assoc seen (r ∷ []) rs
 record Ruled (scope : Scope) (seen : List Rule) (r : Rule) : Type 0 where
   is : IsRule scope r
   room : length seen < 16
-  productions : made seen + length r.productions ≤ 64
+  productions : productions_of_rules seen + length r.productions ≤ 64
   once : OnceEach seen (r ∷ [])
 
-rule_good : (scope : Scope) (seen : List Rule) (r : Rule) → made seen ≤ 64 → (rule scope seen).Good r →
+rule_good : (scope : Scope) (seen : List Rule) (r : Rule) → productions_of_rules seen ≤ 64 → (rule scope seen).Good r →
     Ruled scope seen r
 unfolding rule rule_name productions
 rule_good scope seen r h good =
-    let ps = productions_good scope (64 - made seen) one_node [] r.productions (omega arith) good.1 in
+    let ps = productions_good scope (64 - productions_of_rules seen) one_node [] r.productions (omega arith) good.1 in
     record {
       is = record { name = good.0.0; productions = ps.each };
       room = good.0.1;
@@ -104,14 +106,14 @@ rule_good scope seen r h good =
       once = (good.0.2, tt);
     }
 
-rules_good : (scope : Scope) (seen rs : List Rule) → length seen ≤ 16 → made seen ≤ 64 →
+rules_good : (scope : Scope) (seen rs : List Rule) → length seen ≤ 16 → productions_of_rules seen ≤ 64 →
     good_from (rule scope) seen rs →
-    AreRules scope seen rs
+    AreLineRules scope seen rs
 rules_good scope seen [] h k good = record {
   each = tt;
   once = tt;
   few = subst (λ (xs : List Rule). length xs ≤ 16) (sym (append-nil seen)) h;
-  few_productions = subst (λ (xs : List Rule). made xs ≤ 64) (sym (append-nil seen)) k;
+  few_productions = subst (λ (xs : List Rule). productions_of_rules xs ≤ 64) (sym (append-nil seen)) k;
 }
 rules_good scope seen (r ∷ rs) h k good =
     let one = rule_good scope seen r k good.0 in
@@ -121,10 +123,11 @@ rules_good scope seen (r ∷ rs) h k good =
       each = (one.is, others.each);
       once = (one.once.0, others.once);
       few = subst (λ (xs : List Rule). length xs ≤ 16) (again seen r rs) others.few;
-      few_productions = subst (λ (xs : List Rule). made xs ≤ 64) (again seen r rs) others.few_productions;
+      few_productions = subst (λ (xs : List Rule). productions_of_rules xs ≤ 64) (again seen r rs)
+          others.few_productions;
     }
 
-assumed : (scope : Scope) (o : Option Term) → optional_good (small_term scope) o → IfSome o (IsWithin scope 64 64)
+assumed : (scope : Scope) (o : Option Term) → optional_good (small_term scope) o → IfSome o (IsTermWithin scope 64 64)
 assumed scope None good = tt
 assumed scope (Some t) good = good
 
@@ -164,10 +167,11 @@ room_back room n some h =
 
 production_back : (scope : Scope) (room : ℕ) (p : Production) → 0 < room → IsProduction scope p →
     (production scope room).Good p
-unfolding production node_production opening operator
+unfolding production node_production key_or operator
 production_back scope room (leaf t) some is =
     record { fit = is.fit; few = room_back room (nodes t) some is.few; flat = is.flat }
-production_back scope room (node op names) some is = (some, (tt, (is.0, names_back (codes ")") [] names is.1)))
+production_back scope room (node op names) some is =
+    ((lt-ltb 0 room some, tt), (tt, (is.0, names_back (codes ")") [] names is.1)))
 
 productions_back : (scope : Scope) (room : ℕ) (before ps : List Production) → AllByRecursion (IsProduction scope) ps →
     length before + length ps ≤ room →
@@ -182,17 +186,19 @@ rule_back : (scope : Scope) (seen : List Rule) (r : Rule) → Ruled scope seen r
 unfolding rule rule_name productions
 rule_back scope seen r is = (
   (is.is.name, is.room, is.once.0),
-  productions_back scope (64 - made seen) [] r.productions is.is.productions (omega (arith, is.productions)),
+  productions_back scope (64 - productions_of_rules seen) [] r.productions is.is.productions
+      (omega (arith, is.productions)),
 )
 
-rules_back : (scope : Scope) (seen rs : List Rule) → AreRules scope seen rs → good_from (rule scope) seen rs
+rules_back : (scope : Scope) (seen rs : List Rule) → AreLineRules scope seen rs → good_from (rule scope) seen rs
 rules_back scope seen [] are = tt
 rules_back scope seen (r ∷ rs) are =
     let few = subst (λ (xs : List Rule). length xs ≤ 16) (sym (again seen r rs)) are.few in
-    let few_productions = subst (λ (xs : List Rule). made xs ≤ 64) (sym (again seen r rs)) are.few_productions in
+    let few_productions = subst (λ (xs : List Rule). productions_of_rules xs ≤ 64) (sym (again seen r rs))
+    are.few_productions in
     let shorter : length seen < 16 =
     omega (arith, few, length-append (seen ++ r ∷ []) rs, length-append seen (r ∷ [])) in
-    let fewer : made seen + length r.productions ≤ 64 = omega (
+    let fewer : productions_of_rules seen + length r.productions ≤ 64 = omega (
       arith,
       few_productions,
       sum_by-append (λ (r : Rule). length r.productions) (seen ++ r ∷ []) rs,
@@ -203,7 +209,8 @@ rules_back scope seen (r ∷ rs) are =
           (record { each = are.each.1; once = are.once.1; few = few; few_productions = few_productions }),
     )
 
-assumed_back : (scope : Scope) (o : Option Term) → IfSome o (IsWithin scope 64 64) → optional_good (small_term scope) o
+assumed_back : (scope : Scope) (o : Option Term) → IfSome o (IsTermWithin scope 64 64) → optional_good
+    (small_term scope) o
 assumed_back scope None is = tt
 assumed_back scope (Some t) is = is
 

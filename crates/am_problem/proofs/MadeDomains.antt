@@ -19,7 +19,7 @@ use Rattle.am_problem.specs.Limits.{AreApart}
 use Rattle.am_problem.specs.lemmas.KindLaws.{laws_of}
 use Rattle.am_problem.proofs.Formed.{same_decides}
 use Rattle.am_problem.proofs.Lists.{all_places, item_holds}
-use Rattle.am_problem.proofs.MadeRules.{IsSmall, PairOperator, one_small, two_small}
+use Rattle.am_problem.proofs.MadeRules.{IsSmallGrammar, PairOperator, one_small, two_small}
 
 -- ---- names
 
@@ -100,7 +100,7 @@ module _ (w : ℕ) (few : w ≤ 8) where
 -- with these operators, the domain's names, grammar and terms are within the limits
 pub record IsHandled (w depth : ℕ) (ops : List Op) (op : Op) (kind : Kind) : Type 0 where
   pub named : AreNamed (fields_of kind)
-  pub small : IsSmall w (fields_of kind) depth ((abstraction_of kind).top w)
+  pub small : IsSmallGrammar w (fields_of kind) depth ((abstraction_of kind).top w)
       (rules_of ((abstraction_of kind).top w) (fields_of kind) ops op)
   pub terms : HasLightTerms w kind
 

@@ -22,7 +22,7 @@ use Rattle.am_tree.specs.declared.grammar.Production.{Production}
 use Rattle.am_tree.specs.declared.grammar.Production.TheVariants.{Leaf}
 use Rattle.am_tree.specs.declared.tree.Tree.{Tree}
 use Rattle.am_problem.specs.Generator.{pair_production, rules_of}
-use Rattle.am_problem.specs.Limits.{IsOver}
+use Rattle.am_problem.specs.Limits.{IsLeafOver}
 use Rattle.am_problem.specs.Problem.{AreDerivable}
 use Rattle.am_problem.proofs.Lists.{all_more, all_places}
 
@@ -49,7 +49,7 @@ weight_of-most w few _ = omega arith
 -- a production of a grammar with so many nonterminals, over so many fields
 record IsGood (count w fields : ℕ) (p : Production) : Type 0 where
   production : IsTrue (is_production count p)
-  over : IsOver w fields p
+  over : IsLeafOver w fields p
 
 abbrev AreGood : ℕ → ℕ → ℕ → Rules → Type 0
 AreGood count w fields rules = AllByRecursion (AllByRecursion (IsGood count w fields)) rules
@@ -82,7 +82,7 @@ module _ (count w fields : ℕ) where
       all_places _ rules
       (all_more _ _ (λ ps each. all_places _ ps (all_more _ _ (λ p is. is.production) ps each)) rules good)
 
-  good_leaves : (rules : Rules) → AreGood count w fields rules → All (All (IsOver w fields)) rules
+  good_leaves : (rules : Rules) → AreGood count w fields rules → All (All (IsLeafOver w fields)) rules
   good_leaves rules good =
       all_places _ rules (all_more _ _ (λ ps each. all_places _ ps (all_more _ _ (λ p is. is.over) ps each)) rules good)
 
@@ -125,9 +125,9 @@ module _ (rules : Rules) (depth : ℕ) where
 -- ---- grammars
 
 -- the rules of a small grammar for a domain with so many fields, from which the constants derive
-pub record IsSmall (w fields depth : ℕ) (top : List ℕ) (rules : Rules) : Type 0 where
+pub record IsSmallGrammar (w fields depth : ℕ) (top : List ℕ) (rules : Rules) : Type 0 where
   pub grammar : IsGrammar rules (range_with_len 0 fields) depth
-  pub leaves : All (All (IsOver w (2 * fields))) rules
+  pub leaves : All (All (IsLeafOver w (2 * fields))) rules
   pub many : length rules ≡ fields + 1
   pub slots : length (layout_of rules (range_with_len 0 fields) depth) ≤ 14
   pub block : block_weight rules w (depth - 1) (range_with_len 0 fields) ≤ 4000
@@ -159,7 +159,7 @@ module _ (w fields : ℕ) (top : List ℕ) (rules : Rules) (small : IsSmallAtBot
     most_depth = most;
   }
 
-  small_at : (digit : ℕ) → digit < 2 → IsSmall w fields (2 + digit) top rules
+  small_at : (digit : ℕ) → digit < 2 → IsSmallGrammar w fields (2 + digit) top rules
   small_at zero below = record {
     grammar = grammar_of 2 (lit≤ tt) (lit≤ tt);
     leaves = good_leaves (length rules) w (2 * fields) rules small.good;
@@ -222,7 +222,7 @@ module _ (w : ℕ) (few : w ≤ 8) (o1 o2 o3 o4 : PairOperator) where
     two_block_3 = omega (arith, weight-Const, weight-Field, weight_of-most w few)
 
     -- those of a domain with two fields
-    pub two_small : (digit : ℕ) → digit < 2 → IsSmall w 2 (2 + digit) (c ∷ d ∷ []) two
+    pub two_small : (digit : ℕ) → digit < 2 → IsSmallGrammar w 2 (2 + digit) (c ∷ d ∷ []) two
     two_small = small_at w 2 (c ∷ d ∷ []) two (record {
       good = two_good;
       few_productions = lit≤ tt;
@@ -267,7 +267,7 @@ module _ (w : ℕ) (few : w ≤ 8) (o1 o2 o3 o4 : PairOperator) where
     one_block_3 = omega (arith, weight-Const, weight-Field, weight_of-most w few)
 
     -- those of a domain with one field
-    pub one_small : (digit : ℕ) → digit < 2 → IsSmall w 1 (2 + digit) (c ∷ []) one
+    pub one_small : (digit : ℕ) → digit < 2 → IsSmallGrammar w 1 (2 + digit) (c ∷ []) one
     one_small = small_at w 1 (c ∷ []) one (record {
       good = one_good;
       few_productions = lit≤ tt;

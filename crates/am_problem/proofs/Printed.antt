@@ -24,7 +24,7 @@ use Rattle.am_tree.specs.declared.grammar.Production.TheVariants.{Leaf, Node}
 use Rattle.am_problem.specs.declared.kind.Kind.{Kind}
 use Rattle.am_problem.specs.Grammar.{scope_at}
 use Rattle.am_problem.specs.Kinds.{fields_of}
-use Rattle.am_problem.specs.Limits.{IsFormed, IsOperation, IsOver, IsProductionOf}
+use Rattle.am_problem.specs.Limits.{IsFormed, IsLeafOver, IsOperation, IsProductionOf}
 use Rattle.am_problem.specs.Printing.{budget_rows, domain_rows, header_rows, problem_text, production_words, rule_row}
 use Rattle.am_problem.specs.Problem.{Problem}
 use Rattle.am_problem.specs.Texts.{name_at, named, named_production, named_rule, named_rules}
@@ -67,7 +67,7 @@ pub leaf_fits : (p : Problem) → IsFormed p → (q : Numbered) → IsProduction
     FitsSomewhere t
 leaf_fits p is q known t e =
     let fields = p.inputs * fields_of p.kind in
-    let own : IsOver p.width fields (Leaf t) = subst (IsOver p.width fields) e known.over in
+    let own : IsLeafOver p.width fields (Leaf t) = subst (IsLeafOver p.width fields) e known.over in
     record { scope = scope_at p.width F fields; is = leaf_scope p is; fit = own }
 
 -- ---- names

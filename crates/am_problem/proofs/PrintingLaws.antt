@@ -12,21 +12,22 @@ use Rattle.am_syntax.proofs.Laws.{all_tokens, lines_is_text, lines_words, name_i
 use Rattle.am_syntax.proofs.Laws.{op_name_is_token, term_is_tokens, tokens-append}
 use Rattle.am_syntax.specs.Canonical.{AreTokens, IsToken}
 use Rattle.am_syntax.specs.Names.{operator}
-use Rattle.am_syntax.specs.Pieces.{number, optional_spelled, spelled_from}
+use Rattle.am_syntax.specs.Pieces.{key_or, number, optional_spelled, spelled_from}
 use Rattle.am_syntax.specs.Readers.{Word, Words}
-use Rattle.am_syntax.specs.Spelling.{IsScope, IsWithin, Scope, letter_code, term_words}
+use Rattle.am_syntax.specs.Spelling.{IsScope, IsTermWithin, Scope, letter_code, term_words}
 use Rattle.am_syntax.specs.declared.limits.Letter.TheVariants.{X, F}
 use Rattle.am_problem.specs.declared.kind.Kind.{Kind}
 use Rattle.am_problem.specs.declared.kind.Kind.TheVariants.{UInterval}
-use Rattle.am_problem.specs.Grammar.{budgets, domain, header, node_production, opening, problem, production}
+use Rattle.am_problem.specs.Grammar.{budgets, domain, header, node_production, problem, production}
 use Rattle.am_problem.specs.Grammar.{productions, rule, rule_name, rules, scope_at, small_term, starts}
 use Rattle.am_problem.specs.Kinds.{fields_of, kind_name}
 use Rattle.am_problem.specs.Limits.{IsProblem}
 use Rattle.am_problem.specs.Lines.{Budgets, Header, Lines, Production, Rule, leaf, node}
 use Rattle.am_problem.specs.Printing.{assume_rows, budget_rows, domain_rows, header_rows, operation_row}
-use Rattle.am_problem.specs.Printing.{begun_rows, joined, problem_rows, problem_text, production_words, rule_row}
+use Rattle.am_problem.specs.Printing.{begun_rows, joined_rows_of, problem_rows, problem_text, production_words}
+use Rattle.am_problem.specs.Printing.{rule_row}
 use Rattle.am_problem.specs.Problem.{Problem}
-use Rattle.am_problem.specs.Texts.{Reads, named}
+use Rattle.am_problem.specs.Texts.{ReadsAsProblem, named}
 use Rattle.am_problem.proofs.Formed.{lines_of_formed}
 use Rattle.am_problem.proofs.LineLaws.{input_scope}
 use Rattle.am_problem.specs.LineLimits.{AreNonterminals, IsLines, IsProduction, IsRule}
@@ -61,7 +62,7 @@ names_tokens [] h = tt
 names_tokens (v ∷ vs) h = (name_is_token v h.0, names_tokens vs h.1)
 
 module _ (scope : Scope) (is : IsScope scope) where
-  assume_tokens : (o : Option Term) → IfSome o (IsWithin scope 64 64) →
+  assume_tokens : (o : Option Term) → IfSome o (IsTermWithin scope 64 64) →
       AllByRecursion AreTokens (assume_rows o)
   assume_tokens None h = tt
   assume_tokens (Some t) h = ((plain_token (codes "assume") refl, term_is_tokens X scope is t h.fit), tt)
@@ -138,11 +139,12 @@ rows_tokens l is =
 -- ---- the words of the rows are the problem's
 
 -- the joined words of two lists of rows
-pub joined-append : (rows more : List Words) → joined (rows ++ more) ≡ joined rows ++ joined more
+pub joined-append : (rows more : List Words) → joined_rows_of (rows ++ more) ≡ joined_rows_of rows ++ joined_rows_of
+    more
 joined-append rows more = flat_map-append (λ ws. ws) rows more
 
 assume_spelled : (w n : ℕ) (o : Option Term) →
-    joined (assume_rows o) ≡ optional_spelled (codes "assume") (small_term (scope_at w X n)) o
+    joined_rows_of (assume_rows o) ≡ optional_spelled (codes "assume") (small_term (scope_at w X n)) o
 assume_spelled w n None = refl
 assume_spelled w n (Some t) = append-nil (codes "assume" ∷ term_words (letter_code X) t)
 
@@ -151,7 +153,7 @@ module _ (w n : ℕ) where
   fields = scope_at w F n
 
   production_spelled : (room : ℕ) (p : Production) → production_words p ≡ (production fields room).spell p
-  unfolding production node_production opening operator
+  unfolding production node_production key_or operator
   production_spelled room (leaf t) = refl
   production_spelled room (node op names) =
       ap (λ (ws : Words). (codes "(" ∷ operator.spell op) ++ (ws ++ codes ")" ∷ []))
@@ -169,31 +171,32 @@ module _ (w n : ℕ) where
   unfolding rule rule_name productions
   rule_spelled seen r = ap (λ (ws : Words). codes "rule" ∷ r.name ∷ ws) (productions_spelled _ [] r.productions)
 
-  rules_spelled : (seen rs : List Rule) → joined (map rule_row rs) ≡ spelled_from (rule fields) seen rs
+  rules_spelled : (seen rs : List Rule) → joined_rows_of (map rule_row rs) ≡ spelled_from (rule fields) seen rs
   rules_spelled seen [] = refl
   rules_spelled seen (r ∷ rs) =
-      ap (λ (ws : Words). ws ++ joined (map rule_row rs)) (rule_spelled seen r)
+      ap (λ (ws : Words). ws ++ joined_rows_of (map rule_row rs)) (rule_spelled seen r)
       ∙ ap (λ (ws : Words). (rule fields seen).spell r ++ ws) (rules_spelled (seen ++ r ∷ []) rs)
 
-header_spelled : (h : Header) → joined (header_rows h) ≡ header.spell h
+header_spelled : (h : Header) → joined_rows_of (header_rows h) ≡ header.spell h
 unfolding header number
 header_spelled h =
     ap (λ (ws : Words). codes "amurth" ∷ decimal 1 ∷ codes "width" ∷ decimal h.width ∷ (operation_row h ++ ws))
     (assume_spelled h.width h.inputs h.assume)
 
 domain_spelled : (l : Lines) →
-    joined (domain_rows l) ≡ (codes "domain" ∷ domain.spell l.kind) ++ (starts (fields_of l.kind)).spell l.starts
+    joined_rows_of (domain_rows l) ≡ (codes "domain" ∷ domain.spell l.kind) ++ (starts (fields_of l.kind)).spell
+    l.starts
 unfolding domain starts
 domain_spelled l =
     ap (λ (ws : Words). codes "domain" ∷ kind_name l.kind ∷ codes "start" ∷ ws)
     (append-nil l.starts ∙ sym (names_spelled (codes "depth") [] l.starts))
 
-budgets_spelled : (b : Budgets) → joined (budget_rows b) ≡ budgets.spell b
+budgets_spelled : (b : Budgets) → joined_rows_of (budget_rows b) ≡ budgets.spell b
 unfolding budgets number
 budgets_spelled b = refl
 
 -- the words of all rows but the last are the spelling of a problem up to its rules
-pub begun_spelled : (l : Lines) → joined (begun_rows l) ≡
+pub begun_spelled : (l : Lines) → joined_rows_of (begun_rows l) ≡
     header.spell l.header ++ ((codes "domain" ∷ domain.spell l.kind) ++ ((starts (fields_of l.kind)).spell l.starts ++
     (budgets.spell l.budgets ++
     spelled_from (rule (scope_at l.header.width F (l.header.inputs * fields_of l.kind))) [] l.rules)))
@@ -204,19 +207,19 @@ begun_spelled l =
     let kind : Words = codes "domain" ∷ domain.spell l.kind in
     let start = (starts (fields_of l.kind)).spell l.starts in
     joined-append (header_rows l.header) after_header
-    ∙ ap (λ (ws : Words). ws ++ joined after_header) (header_spelled l.header)
+    ∙ ap (λ (ws : Words). ws ++ joined_rows_of after_header) (header_spelled l.header)
     ∙ ap (λ (ws : Words). header.spell l.header ++ ws)
     (joined-append (domain_rows l) after_starts
-    ∙ ap (λ (ws : Words). ws ++ joined after_starts) (domain_spelled l)
-    ∙ append_assoc kind start (joined after_starts)
+    ∙ ap (λ (ws : Words). ws ++ joined_rows_of after_starts) (domain_spelled l)
+    ∙ append_assoc kind start (joined_rows_of after_starts)
     ∙ ap (λ (ws : Words). kind ++ (start ++ ws))
     (joined-append (budget_rows l.budgets) rows
-    ∙ ap (λ (ws : Words). ws ++ joined rows) (budgets_spelled l.budgets)
+    ∙ ap (λ (ws : Words). ws ++ joined_rows_of rows) (budgets_spelled l.budgets)
     ∙ ap (λ (ws : Words). budgets.spell l.budgets ++ ws)
     (rules_spelled l.header.width (l.header.inputs * fields_of l.kind) [] l.rules)))
 
 -- the words of a problem's rows are its spelling
-pub rows_spelled : (l : Lines) → joined (problem_rows l) ≡ problem.spell l
+pub rows_spelled : (l : Lines) → joined_rows_of (problem_rows l) ≡ problem.spell l
 unfolding problem rules
 rows_spelled l =
     let end : List Words = (codes "end" ∷ []) ∷ [] in
@@ -226,21 +229,21 @@ rows_spelled l =
     let kind : Words = codes "domain" ∷ domain.spell l.kind in
     let start = (starts (fields_of l.kind)).spell l.starts in
     joined-append (header_rows l.header) after_header
-    ∙ ap (λ (ws : Words). ws ++ joined after_header) (header_spelled l.header)
+    ∙ ap (λ (ws : Words). ws ++ joined_rows_of after_header) (header_spelled l.header)
     ∙ ap (λ (ws : Words). header.spell l.header ++ ws)
     (joined-append (domain_rows l) after_starts
-    ∙ ap (λ (ws : Words). ws ++ joined after_starts) (domain_spelled l)
-    ∙ append_assoc kind start (joined after_starts)
+    ∙ ap (λ (ws : Words). ws ++ joined_rows_of after_starts) (domain_spelled l)
+    ∙ append_assoc kind start (joined_rows_of after_starts)
     ∙ ap (λ (ws : Words). kind ++ (start ++ ws))
     (joined-append (budget_rows l.budgets) after_budgets
-    ∙ ap (λ (ws : Words). ws ++ joined after_budgets) (budgets_spelled l.budgets)
+    ∙ ap (λ (ws : Words). ws ++ joined_rows_of after_budgets) (budgets_spelled l.budgets)
     ∙ ap (λ (ws : Words). budgets.spell l.budgets ++ ws)
     (joined-append (map rule_row l.rules) end
     ∙ ap (λ (ws : Words). ws ++ codes "end" ∷ [])
     (rules_spelled l.header.width (l.header.inputs * fields_of l.kind) [] l.rules))))
 
 -- what was printed reads back
-pub printed_reads : (p : Problem) → IsProblem p → Reads (problem_text p) p
+pub printed_reads : (p : Problem) → IsProblem p → ReadsAsProblem (problem_text p) p
 unfolding problem_text
 printed_reads p is =
     let rows = problem_rows (named p) in

@@ -2,9 +2,9 @@
 use Rattle.std.proofs.Common.{◌≡◌, ℕ, ◌-◌, ◌<◌, Bool, true, false, cond, not, ◌||◌, ◌==◌, nat_le, List, [], ◌∷◌, ◌++◌}
 use Rattle.std.proofs.Common.{length, decimal, flat_map, codes, Result, Ok, Err, bytes_eq, ap, subst, ◌∙◌, sym, refl}
 use Rattle.std.proofs.Common.{arith, inl, inr, lit<, IsTrue}
-use Rattle.std.specs.Prelude.{◌⊎◌, is_some}
-use Rattle.std.proofs.lemmas.Bool.{and_from, and_left, and_right, leb-true, ltb-true, and_parts, eqb-false, leb-false}
-use Rattle.std.proofs.lemmas.Bool.{lt-leb, ne_eqb}
+use Rattle.std.specs.Prelude.{◌⊎◌, is_some, nat_lt}
+use Rattle.std.proofs.lemmas.Bool.{and_from, and_left, and_right, leb-true, ltb-true, and_parts, leb-false}
+use Rattle.std.proofs.lemmas.Bool.{lt-leb}
 use Rattle.am_bv.specs.Operators.{arity}
 use Rattle.am_bv.specs.declared.op.Op.{Op}
 use Rattle.am_bv.specs.declared.op.Op.TheVariants.{Not, Neg, Ite}
@@ -13,10 +13,11 @@ use Rattle.am_syntax.specs.declared.refusal.Cause.{Cause}
 use Rattle.am_syntax.specs.declared.refusal.Cause.TheVariants.{Syntax, Count, Twice}
 use Rattle.am_syntax.specs.Numerals.{is_digits, is_name}
 use Rattle.am_syntax.specs.Readers.{Word, Words}
-use Rattle.am_syntax.specs.Pieces.{Piece, count, name_or, next_is, syntax}
+use Rattle.am_syntax.specs.Pieces.{Piece, count, key_or, name_or, next_is, syntax, too_early}
 use Rattle.am_problem.specs.Lines.{Production, Rule, leaf, node}
-use Rattle.am_problem.specs.Grammar.{late, goes_on, has_name, leaf_production, made, names_of, node_production, opening}
-use Rattle.am_problem.specs.Grammar.{opening_judge, opens_names, production, production_of, production_parts}
+use Rattle.am_problem.specs.Grammar.{goes_on, has_name, leaf_production, names_of, node_production, opening}
+use Rattle.am_problem.specs.Grammar.{productions_of_rules}
+use Rattle.am_problem.specs.Grammar.{opens_names, production, production_of, production_parts}
 use Rattle.am_problem.specs.Grammar.{productions, rule, rule_name, rule_name_judge, rule_of, rule_parts, rules}
 use Rattle.am_syntax.specs.declared.limits.Letter.{Letter}
 use Rattle.am_syntax.specs.declared.limits.Letter.TheVariants.{X, F}
@@ -29,34 +30,20 @@ use Rattle.am_syntax.proofs.Laws.{decimal-is_digits}
 use Rattle.am_syntax.specs.Names.{operator}
 use Rattle.am_syntax.proofs.Laws.{repeat_law, times_law}
 use Rattle.am_syntax.specs.Exact.{IsExact, always}
-use Rattle.am_syntax.proofs.Laws.{choice_law, closed_law, keyed_law, same_bytes, seen_law, then_law, token_law}
+use Rattle.am_syntax.proofs.Laws.{choice_by_law, closed_law, key_law, keyed_law, one_more_law, same_bytes, seen_law}
+use Rattle.am_syntax.proofs.Laws.{then_law, token_law}
 use Rattle.am_syntax.proofs.Laws.{digits_apart, narrow, term_within_law, words-Const, words-Field, words-Node}
 use Rattle.am_syntax.proofs.Laws.{chosen, name_law, op_named-name, operator_law}
+use Rattle.am_problem.proofs.RefusedProductions.{applied_law, production_alike}
 
 -- ---- productions
 
 pub opening_law : (room : ℕ) → IsExact (opening room) always
-unfolding opening
-opening_law room = token_law (opening_judge room) (λ _. codes "(") (λ _. 0 < room)
-    (λ v x e. elim (chosen (bytes_eq v (codes "(")) (cond (room == 0) (Err Count) (Ok tt)) (Err Syntax) (Ok x) e) [
-      | inl opens ↦ elim (chosen (room == 0) (Err Count) (Ok tt) (Ok x) opens.1) [
-        | inl full ↦ absurd (let f : ◌≡◌ {A = Result (Unit {0}) Cause} (Err Count) (Ok x) = full.1 in cc)
-        | inr free ↦
-            (same_bytes v (codes "(") opens.0, let other : room ≡ 0 → ⊥ = eqb-false room 0 free.0 in omega arith)
-      ]
-      | inr other ↦ absurd (let f : ◌≡◌ {A = Result (Unit {0}) Cause} (Err Syntax) (Ok x) = other.1 in cc)
-    ])
-    (λ x good. ap (λ b. cond b (Err Count) (Ok tt)) (ne_eqb room 0 (λ e. omega (arith, good))))
+opening_law room = one_more_law (nat_lt 0 room) (key_law syntax (codes "("))
 
 pub node_law : (room : ℕ) → IsExact (node_production room) always
 unfolding node_production
-node_law room =
-    then_law (opening_law room)
-    (λ _ _. then_law operator_law
-    (λ op _. closed_law count (codes ")") (times_law (λ seen. name_law (late (codes ")"))) (λ _ _ _ _. tt) (arity op))
-    (λ _. tt))
-    (λ _ _ _ _ _ _. tt))
-    (λ _ _ _ _ _ _. tt)
+node_law room = then_law (opening_law room) (λ _ _. applied_law) (λ _ _ _ _ _ _. tt)
 
 pub leaf_law : (scope : Scope) → IsScope scope → (room : ℕ) → IsExact (leaf_production scope room) always
 leaf_law scope is room = term_within_law scope is false 64 (cond (room == 0) 0 64)
@@ -77,7 +64,7 @@ at_least_one _ = lit< tt
 
 node_opens : (room : ℕ) (x : Unit {0} × (Op × List Word)) (rest : Words) → (node_production room).Good x →
     opens_names ((node_production room).spell x ++ rest) ≡ true
-unfolding node_production opening operator name_or
+unfolding node_production key_or operator name_or
 node_opens room (u, (op, [])) rest good = absurd (omega (arith, at_least_one op, good.1.1.0))
 node_opens room (u, (op, n ∷ names)) rest good = and_from _ _ (ap is_some (op_named-name op)) good.1.1.1.0
 
@@ -185,14 +172,15 @@ pub production_law : (scope : Scope) → IsScope scope → (room : ℕ) → IsEx
 unfolding production
 production_law scope is room =
     seen_law production_of production_parts
-    (choice_law opens_names (node_law room) (leaf_law scope is room) (node_opens room) (leaf_doesnt scope is room))
+    (choice_by_law opens_names (node_law room) (leaf_law scope is room) (node_opens room) (leaf_doesnt scope is room)
+    (production_alike scope room (node_law room) (leaf_law scope is room)))
     (λ x good. there x) back
 
 -- a production begins as no key word does
 production_goes : (scope : Scope) → IsScope scope → (room : ℕ) (p : Production) (rest : Words) →
     (production scope room).Good p →
     goes_on ((production scope room).spell p ++ rest) ≡ true
-unfolding production node_production opening
+unfolding production node_production key_or
 production_goes scope is room (leaf t) rest good =
     let b = begins scope is t good.fit in
     ap (λ (ws : Words). goes_on (ws ++ rest)) b.text
@@ -201,7 +189,7 @@ production_goes scope is room (node op names) rest good = refl
 
 production_moves : (scope : Scope) → IsScope scope → (room : ℕ) (p : Production) → (production scope room).Good p →
     0 < length ((production scope room).spell p)
-unfolding production node_production opening
+unfolding production node_production key_or
 production_moves scope is room (leaf t) good = let b = begins scope is t good.fit in omega (arith, ap length b.text)
 production_moves scope is room (node op names) good = omega arith
 
@@ -226,7 +214,7 @@ module _ (scope : Scope) (is : IsScope scope) (room : ℕ) where
   pub productions_law : IsExact (productions scope room) EndsRule
   unfolding productions
   productions_law =
-      repeat_law each_law goes_on each_moves (λ rest h. (h, tt))
+      repeat_law each_law goes_on each_moves (λ _ _ _. refl) (λ rest h. (h, tt))
       (λ before p rest good. production_goes scope is (room - length before) p rest good) (λ _ _ _ _. tt)
 
 -- ---- rules
@@ -267,7 +255,8 @@ module _ (scope : Scope) (is : IsScope scope) where
   rule_law seen =
       seen_law rule_of rule_parts
       (keyed_law syntax (codes "rule")
-      (then_law (rule_name_law seen) (λ _ _. productions_law scope is (64 - made seen)) (λ _ _ _ _ _ _. tt)))
+      (then_law (rule_name_law seen) (λ _ _. productions_law scope is (64 - productions_of_rules seen))
+      (λ _ _ _ _ _ _. tt)))
       (λ x good. refl) (λ r. refl)
 
   -- a rule takes a token at least
@@ -299,4 +288,4 @@ module _ (scope : Scope) (is : IsScope scope) where
   -- rules are read exactly as they are spelled, up to `end`
   pub rules_law : IsExact (rules scope) Closes
   unfolding rules
-  rules_law = repeat_law rule_law (next_is (codes "rule")) rule_moves ends_both rule_begins rule_ends
+  rules_law = repeat_law rule_law (next_is (codes "rule")) rule_moves (λ _ _ _. refl) ends_both rule_begins rule_ends

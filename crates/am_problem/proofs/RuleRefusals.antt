@@ -10,25 +10,27 @@ use Rattle.am_syntax.specs.Pieces.{◌▹◌, Piece, good_from, key_judge, key_o
 use Rattle.am_syntax.specs.Pieces.{seen_as, spelled_from, syntax}
 use Rattle.am_syntax.specs.Readers.{◌>>=◌, Reader, Word, Words, done, judged, onward, settled}
 use Rattle.am_syntax.specs.Spelling.{IsScope, Scope}
-use Rattle.am_syntax.specs.Texts.{opened, refusal_at, text_value, whole}
+use Rattle.am_syntax.specs.Texts.{opened, read_whole, refusal_at, whole}
 use Rattle.am_syntax.specs.declared.limits.Letter.TheVariants.{F}
 use Rattle.am_syntax.specs.declared.refusal.Cause.{Cause}
 use Rattle.am_syntax.specs.declared.refusal.Cause.TheVariants as cause
 use Rattle.am_syntax.specs.declared.refusal.Refusal.TheVariants.{Count, Twice}
 use Rattle.am_problem.specs.declared.kind.Kind.{Kind}
-use Rattle.am_problem.specs.Grammar.{budgets, domain, has_name, header, lines_of, lines_parts, made, names_of, problem}
+use Rattle.am_problem.specs.Grammar.{budgets, domain, has_name, header, lines_of, lines_parts, names_of, problem}
+use Rattle.am_problem.specs.Grammar.{productions_of_rules}
 use Rattle.am_problem.specs.Grammar.{productions}
 use Rattle.am_problem.specs.Grammar.{rule, rule_name, rule_name_judge, rule_of, rule_parts, rules, scope_at, starts}
 use Rattle.am_problem.specs.Kinds.{fields_of}
 use Rattle.am_problem.specs.Lines.{Budgets, Header, Lines, Rule}
-use Rattle.am_problem.specs.Printing.{begun_rows, joined}
+use Rattle.am_problem.specs.Printing.{begun_rows, joined_rows_of}
 use Rattle.am_problem.specs.Refusals.{BeginsRule}
-use Rattle.am_problem.specs.Texts.{all_settled, drafted, problem_of}
+use Rattle.am_problem.specs.Texts.{problem_of, settled_problem_of}
 use Rattle.am_problem.proofs.KindLaws.{domain_law}
 use Rattle.am_problem.proofs.LineLaws.{budgets_law, field_scope, header_law, starts_law}
 use Rattle.am_problem.proofs.LineLimits.{lines_back}
 use Rattle.am_problem.proofs.PrintingLaws.{begun_spelled}
 use Rattle.am_problem.proofs.ProblemLaws.{EndsRule, rule_law, rule_moves}
+use Rattle.am_problem.proofs.TextLaws.{drafted, problem_of_lines}
 
 -- ---- a piece that is refused, after others
 
@@ -58,11 +60,12 @@ rule_fails : (scope : Scope) (seen : List Rule) (key name : Placed) (after : Lis
     (rule scope seen).read (left_at (key ∷ name ∷ after) end) ≡ Err (c, left_at (name ∷ after) end)
 unfolding rule rule_name key_or judged
 rule_fails scope seen key name after end c opens judge =
-    let p = rule_name seen ▹ λ _. productions scope (64 - made seen) in
+    let p = rule_name seen ▹ λ _. productions scope (64 - productions_of_rules seen) in
     let named : (rule_name seen).read (left_at (name ∷ after) end) ≡ Err (c, left_at (name ∷ after) end) =
     ap (settled name after end) judge in
     let own : p.read (left_at (name ∷ after) end) ≡ Err (c, left_at (name ∷ after) end) =
-    ap (onward (λ (v : Word). (productions scope (64 - made seen)).read >>= λ (ps : List _). done (v, ps))) named in
+    ap (onward (λ (v : Word). (productions scope (64 - productions_of_rules seen)).read >>= λ (ps : List _). done
+    (v, ps))) named in
     seen_fails rule_of rule_parts (keyed (codes "rule") p) (left_at (key ∷ name ∷ after) end)
     (c, left_at (name ∷ after) end)
     (ap
@@ -154,13 +157,14 @@ module _ (l : Lines) (good : problem.Good l) where
       next_is (codes "rule") (words u) ≡ true → (rule field l.rules).read u ≡ Err stop → problem.read s ≡ Err stop
   unfolding problem rules
   lines_fail s u stop taken opens fails =
-      let behind_starts = budgets.spell l.budgets ++ rules_words in
-      let behind_domain = start_words ++ behind_starts in
-      let one = Takes-halves s (header.spell l.header) (kind_words ++ behind_domain) u taken in
-      let two = Takes-halves one.between kind_words behind_domain u one.second in
-      let three = Takes-halves two.between start_words behind_starts u two.second in
+      let rest_after_starts = budgets.spell l.budgets ++ rules_words in
+      let rest_after_domain = start_words ++ rest_after_starts in
+      let one = Takes-halves s (header.spell l.header) (kind_words ++ rest_after_domain) u taken in
+      let two = Takes-halves one.between kind_words rest_after_domain u one.second in
+      let three = Takes-halves two.between start_words rest_after_starts u two.second in
       let four = Takes-halves three.between (budgets.spell l.budgets) rules_words u three.second in
-      let quiet = ap (next_is (codes "assume")) (Takes-words one.between (kind_words ++ behind_domain) u one.second) in
+      let quiet = ap (next_is (codes "assume")) (Takes-words one.between (kind_words ++ rest_after_domain) u one.second)
+      in
       let is = field_scope l.header l.kind good.0 in
       seen_fails lines_of lines_parts (header ▹ after_header) s stop
       (then_fails header after_header s l.header one.between stop
@@ -186,14 +190,14 @@ one_token (t ∷ u ∷ ts) w e = absurd cc
 -- a text is refused where the name of a rule is
 refused_there : (text : List ℕ) (l : Lines) (token : Placed) (c : Cause) → BeginsRule text l token →
     rule_name_judge l.rules token.word ≡ Err c → problem_of text ≡ Err (refusal_at c token.place)
-unfolding text_value
+unfolding read_whole
 refused_there text l token c is judge =
     let good = lines_back l is.limits in
     let end = (text_left text).end in
     let u = left_at (token ∷ is.after) end in
-    let taken : Takes (text_left text) (joined (begun_rows l) ++ codes "rule" ∷ []) u =
+    let taken : Takes (text_left text) (joined_rows_of (begun_rows l) ++ codes "rule" ∷ []) u =
     record { front = is.before; split = is.tokens; spelled = is.words; same_end = refl } in
-    let h = Takes-halves (text_left text) (joined (begun_rows l)) (codes "rule" ∷ []) u taken in
+    let h = Takes-halves (text_left text) (joined_rows_of (begun_rows l)) (codes "rule" ∷ []) u taken in
     let key = one_token h.second.front (codes "rule") h.second.spelled in
     let between : h.between ≡ left_at (key.0 ∷ token ∷ is.after) end =
     ap (λ (ts : List Placed). left_at ts h.between.end)
@@ -205,8 +209,9 @@ refused_there text l token c is judge =
     ∙ ap (λ (w : Word). next_is (codes "rule") (w ∷ [])) key.2 in
     let begun = subst (λ (ws : Words). Takes (text_left text) ws h.between) (begun_spelled l) h.first in
     let read = lines_fail l good (text_left text) h.between (c, u) begun opens fails in
-    ap (λ bad. all_settled (drafted text (opened problem text bad))) is.allowed
-    ∙ ap (λ read. all_settled (drafted text (whole read))) read
+    problem_of_lines text
+    ∙ ap (λ bad. settled_problem_of (drafted text (opened problem.read text bad))) is.allowed
+    ∙ ap (λ read. settled_problem_of (drafted text (whole read))) read
 
 -- the name of a seventeenth rule
 pub counted_first : (text : List ℕ) (l : Lines) (token : Placed) → BeginsRule text l token → length l.rules ≡ 16 →

@@ -6,7 +6,7 @@ use Rattle.std.proofs.lemmas.List.Sums.{sum_by-cons}
 use Rattle.am_problem.specs.declared.draft.Production.{Production as StoredProduction}
 use Rattle.am_problem.specs.declared.draft.Rule.{Rule as StoredRule}
 use Rattle.am_problem.specs.Lines.{Rule}
-use Rattle.am_problem.specs.Grammar.{has_name, made, names_of}
+use Rattle.am_problem.specs.Grammar.{has_name, names_of, productions_of_rules}
 use Rattle.am_syntax.specs.Readers.{Word}
 use Rattle.am_problem.specs.StoredLines.{seen_production, seen_rule, seen_rules}
 
@@ -16,11 +16,11 @@ any_seen [] v = refl
 any_seen (r ∷ rules) v = ap (λ b. bytes_eq v r.name.now || b) (any_seen rules v)
 
 pub made_seen : (rules : List StoredRule)
-    → made (seen_rules rules) ≡ sum_by (λ (rule : StoredRule). length rule.productions) rules
+    → productions_of_rules (seen_rules rules) ≡ sum_by (λ (rule : StoredRule). length rule.productions) rules
 made_seen [] = refl
 made_seen (r ∷ rules) =
     sum_by-cons (λ (r : Rule). length r.productions) (seen_rule r) (seen_rules rules)
-    ∙ ap (λ n. n + made (seen_rules rules)) (length-map r.productions seen_production)
+    ∙ ap (λ n. n + productions_of_rules (seen_rules rules)) (length-map r.productions seen_production)
     ∙ ap (λ n. length r.productions + n) (made_seen rules)
     ∙ sym (sum_by-cons (λ (rule : StoredRule). length rule.productions) r rules)
 

@@ -1,12 +1,13 @@
 -- A text is a problem's exactly where that problem is read from it, and else it has a first refusal.
-use Rattle.std.proofs.Common.{◌≡◌, ℕ, Bool, true, false, cond, nat_lt, List, [], Option, Some, None, Result, Ok, Err}
-use Rattle.std.proofs.Common.{ap, subst, ◌∙◌, sym, refl, inl, inr}
+use Rattle.std.proofs.Common.{◌≡◌, ℕ, Bool, true, false, cond, nat_lt, List, [], ◌∷◌, Option, Some, None, Result, Ok}
+use Rattle.std.proofs.Common.{Err, ap, subst, ◌∙◌, sym, refl, inl, inr}
 use Rattle.std.specs.Prelude.{IfErr, IfOk}
 use Rattle.std.proofs.lemmas.Bool.{ltb-false, le-ltb}
 use Rattle.std.proofs.lemmas.List.{append-nil}
-use Rattle.am_text.specs.Tokens.{Left, tokens_at, words}
-use Rattle.am_syntax.proofs.Laws.{Takes-words, text_found, text_read}
-use Rattle.am_syntax.specs.Texts.{Answers, IsTextOf, text_value}
+use Rattle.am_text.specs.Tokens.{Left, Placed, bad_byte, text_left, tokens_at, words}
+use Rattle.am_syntax.proofs.Laws.{EndAlike, Takes-words, refuses_alike, text_found, text_read, text_refused}
+use Rattle.am_syntax.specs.Readers.{Read, done, onward}
+use Rattle.am_syntax.specs.Texts.{Answers, IsTextOf, ended, opened, read_whole, text_value, whole}
 use Rattle.am_syntax.specs.declared.refusal.ReadError.{ReadError}
 use Rattle.am_syntax.specs.declared.refusal.ReadError.TheVariants.{NoMemory, Refused}
 use Rattle.am_syntax.specs.declared.refusal.Refusal.{Refusal}
@@ -16,8 +17,10 @@ use Rattle.am_problem.specs.Limits.{IsFormed, IsProblem, slots_of}
 use Rattle.am_problem.specs.Lines.{Lines}
 use Rattle.am_problem.specs.Loads.{load_of}
 use Rattle.am_problem.specs.Problem.{Problem}
-use Rattle.am_problem.specs.Texts.{IfRefused, IsOneProblem, IsProblemText, IsSettledProblem, Reads, all_settled}
-use Rattle.am_problem.specs.Texts.{drafted, named, numbered, problem_of, settled_by, sized, undefined_in}
+use Rattle.am_problem.specs.Texts.{IfRefused, IsOneProblem, IsProblemText, IsSettledProblem, ProblemsAreRefusedForGood}
+use Rattle.am_problem.specs.Texts.{ReadsAsProblem, settled_problem_of}
+use Rattle.am_problem.specs.Texts.{Draft, draft, draft_with, named, numbered, problem_of, settled_by, sized}
+use Rattle.am_problem.specs.Texts.{undefined_in}
 use Rattle.am_problem.proofs.Formed.{formed_of, lines_of_formed}
 use Rattle.am_problem.proofs.LineLaws.{problem_law}
 use Rattle.am_problem.proofs.LineLimits.{lines_back, lines_good}
@@ -80,6 +83,31 @@ formed_text l text value defined =
     formed_of l (lines_good l is.good)
     (known_lines names l (sym past ∙ ap (comes names) (sym is.spelled) ∙ none_comes names (tokens_at 0 text) defined))
 
+-- the draft of the lines that a text has
+abbrev pub drafted : List ℕ → Result Lines Refusal → Result Draft Refusal
+drafted text (Ok l) = Ok (draft_with (tokens_at 0 text) l)
+drafted text (Err r) = Err r
+
+drafted_end : (text : List ℕ) (l : Lines) (tokens : List Placed) →
+    ended (draft_with (tokens_at 0 text) l) tokens ≡ drafted text (ended l tokens)
+drafted_end text l [] = refl
+drafted_end text l (t ∷ ts) = refl
+
+drafted_read : (text : List ℕ) (read : Read Lines) →
+    whole (onward (λ l. done (draft_with (tokens_at 0 text) l)) read) ≡ drafted text (whole read)
+drafted_read text (Ok x) = drafted_end text x.0 x.1.tokens
+drafted_read text (Err stop) = refl
+
+drafted_opened : (text : List ℕ) (bad : Option ℕ) →
+    opened draft text bad ≡ drafted text (opened problem.read text bad)
+drafted_opened text (Some place) = refl
+drafted_opened text None = drafted_read text (problem.read (text_left text))
+
+-- the problem of a text is that of its lines
+pub problem_of_lines : (text : List ℕ) → problem_of text ≡ settled_problem_of (drafted text (text_value problem text))
+unfolding read_whole
+problem_of_lines text = ap settled_problem_of (drafted_opened text (bad_byte text))
+
 record IsFound (text : List ℕ) (p : Problem) : Type 0 where
   lines : Lines
   is_text : text_value problem text ≡ Ok lines
@@ -87,16 +115,16 @@ record IsFound (text : List ℕ) (p : Problem) : Type 0 where
   fits : sized (numbered lines) ≡ Ok p
 
 found_in : (text : List ℕ) (p : Problem) (value : Result Lines Refusal) → text_value problem text ≡ value →
-    all_settled (drafted text value) ≡ Ok p →
+    settled_problem_of (drafted text value) ≡ Ok p →
     IsFound text p
 found_in text p (Ok l) e h =
     let k = settled_ok l p (undefined_in (names_of l.rules) (tokens_at 0 text)) h in
     record { lines = l; is_text = e; defined = k.0; fits = k.1 }
 found_in text p (Err r) e h = absurd cc
 
-reads_from : (text : List ℕ) (p : Problem) → problem_of text ≡ Ok p → Reads text p
+reads_from : (text : List ℕ) (p : Problem) → problem_of text ≡ Ok p → ReadsAsProblem text p
 reads_from text p h =
-    let found = found_in text p (text_value problem text) refl h in
+    let found = found_in text p (text_value problem text) refl (sym (problem_of_lines text) ∙ h) in
     let l = found.lines in
     let is = text_found problem_law text l found.is_text in
     let names = names_of l.rules in
@@ -111,20 +139,42 @@ reads_from text p h =
       limits = sized.0;
     }
 
-reads_to : (text : List ℕ) (p : Problem) → Reads text p → problem_of text ≡ Ok p
+-- the text of a problem is that of its lines
+pub lines_text : (text : List ℕ) (p : Problem) → ReadsAsProblem text p → IsTextOf problem text (named p)
+lines_text text p reads = record {
+  allowed = reads.allowed;
+  spelled = reads.spelled;
+  good = lines_back (named p) (lines_of_formed p reads.limits.formed);
+}
+
+reads_to : (text : List ℕ) (p : Problem) → ReadsAsProblem text p → problem_of text ≡ Ok p
 reads_to text p reads =
     let l = named p in
     let names = names_of l.rules in
-    let good = lines_back l (lines_of_formed p reads.limits.formed) in
     let known = known_named p reads.limits.formed in
-    let is : IsTextOf problem text l = record { allowed = reads.allowed; spelled = reads.spelled; good = good } in
+    let is = lines_text text p reads in
     let past =
-    ap (comes names) (sym (append-nil (problem.spell l))) ∙ lines_past names l [] good ∙ none_missing_lines l known in
+    ap (comes names) (sym (append-nil (problem.spell l))) ∙ lines_past names l [] is.good
+    ∙ none_missing_lines l known in
     let defined = none_found names (tokens_at 0 text) (ap (comes names) reads.spelled ∙ past) in
-    ap (λ value. all_settled (drafted text value)) (text_read problem_law tt text l is)
+    problem_of_lines text
+    ∙ ap (λ value. settled_problem_of (drafted text value)) (text_read problem_law tt text l is)
     ∙ ap (settled_by l) defined
     ∙ ap sized (problem_again p reads.limits.formed)
     ∙ sized_back p reads.limits
+
+-- the draft of a problem ends as its lines do
+draft_alike : (tokens : List Placed) (read : Read Lines) →
+    EndAlike (onward (λ l. done (draft_with tokens l)) read) read
+draft_alike tokens (Ok x) = refl
+draft_alike tokens (Err stop) = refl
+
+-- a refused token is refused whatever follows it
+pub problem_refused : ProblemsAreRefusedForGood
+problem_refused =
+    refuses_alike draft problem.read IsProblemText (λ s. draft_alike s.tokens (problem.read s))
+    (λ text other r at good refused stops (p, reads).
+    text_refused problem_law tt text other r at good refused stops (named p, lines_text other p reads))
 
 -- a text is one problem's
 pub one_problem : (text : List ℕ) → IsOneProblem text
@@ -146,7 +196,7 @@ all_texts_settled text = settled_so text (problem_of text) refl
 
 -- what is answered exactly is the text's problem
 pub found_by : (text : List ℕ) (result : Result Problem ReadError) → Answers (λ p. p) result (problem_of text) →
-    IfOk result (λ p. Reads text p)
+    IfOk result (λ p. ReadsAsProblem text p)
 found_by text (Ok p) h = reads_from text p h
 found_by text (Err e) h = tt
 

@@ -16,19 +16,21 @@ use Rattle.am_syntax.proofs.Laws.{words-Node}
 use Rattle.am_syntax.specs.Exact.{words_in}
 use Rattle.am_syntax.specs.Names.{op_name, operator}
 use Rattle.am_syntax.specs.Numerals.{is_digits, is_name}
-use Rattle.am_syntax.specs.Pieces.{good_from, name_or, number, optional_good, optional_spelled, spelled_from}
+use Rattle.am_syntax.specs.Pieces.{good_from, key_or, name_or, number, optional_good, optional_spelled, spelled_from}
 use Rattle.am_syntax.specs.Readers.{Word, Words}
 use Rattle.am_syntax.specs.Spelling.{IsScope, Scope, letter_code, term_words}
 use Rattle.am_syntax.specs.declared.limits.Letter.{Letter}
 use Rattle.am_syntax.specs.declared.limits.Letter.TheVariants.{X, F}
 use Rattle.am_problem.specs.declared.kind.Kind.{Kind}
 use Rattle.am_problem.specs.declared.kind.Kind.TheVariants.{UInterval}
-use Rattle.am_problem.specs.Grammar.{budgets, domain, has_name, header, made, name_before, node_production, opening}
+use Rattle.am_problem.specs.Grammar.{budgets, domain, has_name, header, name_before, node_production}
+use Rattle.am_problem.specs.Grammar.{productions_of_rules}
 use Rattle.am_problem.specs.Grammar.{problem, production, productions, rule, rule_name, rules, scope_at, small_term}
 use Rattle.am_problem.specs.Grammar.{starts}
 use Rattle.am_problem.specs.Kinds.{fields_of, kind_name}
 use Rattle.am_problem.specs.Lines.{Budgets, Header, Lines, Production, Rule, leaf, node}
 use Rattle.am_problem.specs.Texts.{is_undefined, undefined_in}
+use Rattle.am_problem.proofs.FirstUndefined.{undefined-cons, undefined-nil}
 use Rattle.am_problem.proofs.ProblemLaws.{digit_name}
 use Rattle.am_problem.proofs.LineLaws.{field_scope, input_scope}
 
@@ -51,7 +53,8 @@ pub none_comes : (names : List Word) (tokens : List Placed) → undefined_in nam
     comes names (words_in tokens) ≡ false
 none_comes names [] h = refl
 none_comes names (t ∷ ts) h =
-    none_step (bytes_eq t.word (codes "end")) (is_undefined names t.word) t.place (undefined_in names ts) _ h
+    none_step (bytes_eq t.word (codes "end")) (is_undefined names t.word) t.place (undefined_in names ts) _
+    (sym (undefined-cons names t ts) ∙ h)
     (none_comes names ts)
 
 found_step : (stops here : Bool) (place : ℕ) (later : Option ℕ) (more : Bool) →
@@ -64,9 +67,10 @@ found_step false false place later more h next = next h
 -- where no undefined name comes before `end`, none is found
 pub none_found : (names : List Word) (tokens : List Placed) → comes names (words_in tokens) ≡ false →
     undefined_in names tokens ≡ None
-none_found names [] h = refl
+none_found names [] h = undefined-nil names
 none_found names (t ∷ ts) h =
-    found_step (bytes_eq t.word (codes "end")) (is_undefined names t.word) t.place (undefined_in names ts) _ h
+    undefined-cons names t ts
+    ∙ found_step (bytes_eq t.word (codes "end")) (is_undefined names t.word) t.place (undefined_in names ts) _ h
     (none_found names ts)
 
 -- ---- words without names
@@ -189,7 +193,7 @@ missing_in names (node op args) = missing names args
 production_past : (scope : Scope) → IsScope scope → (room : ℕ) (names : List Word) (p : Production) (ws : Words) →
     (production scope room).Good p →
     comes names ((production scope room).spell p ++ ws) ≡ (missing_in names p || comes names ws)
-unfolding production node_production opening operator
+unfolding production node_production key_or operator
 production_past scope is room names (leaf t) ws good =
     quiet_past names (term_words (letter_code scope.letter) t) ws (quiet_term scope is t good.fit)
 production_past scope is room names (node op args) ws good =
@@ -238,7 +242,8 @@ rule_past : (scope : Scope) → IsScope scope → (names : List Word) (seen : Li
 unfolding rule rule_name productions
 rule_past scope is names seen r ws good =
     name_past names r.name
-    (spelled_from (λ (before : List Production). production scope (64 - made seen - length before)) [] r.productions
+    (spelled_from (λ (before : List Production). production scope (64 - productions_of_rules seen - length before)) []
+    r.productions
     ++ ws)
     good.0.0
     ∙ ap (λ b. not (has_name names r.name) || b) (productions_past scope is _ names [] r.productions ws good.1)

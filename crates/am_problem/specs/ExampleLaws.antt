@@ -10,45 +10,45 @@ use Rattle.am_domain.specs.Tuple.{IsTuple}
 use Rattle.am_problem.specs.declared.examples.Positive.{Positive as StoredPositive}
 use Rattle.am_problem.specs.declared.examples.Negative.{Negative as StoredNegative}
 use Rattle.am_problem.specs.Examples.{all_fields, inputs_of, negative_of, positive_of}
-use Rattle.am_problem.specs.Examples.{AreWordsOf, IsNegative, IsPositive, IsRow, IsTransformer}
+use Rattle.am_problem.specs.Examples.{AreInputWords, IsFieldRow, IsNegative, IsPositive, IsTransformer}
 use Rattle.am_problem.specs.Kinds.{fields_of, meaning_of}
 use Rattle.am_problem.specs.Limits.{IsFormed}
 use Rattle.am_problem.specs.Problem.{AreDerivable, Problem, question_of}
 
 -- the inputs of a row, put together again, are the row
 abbrev pub RowsAreJoined : Type 0
-RowsAreJoined = (p : Problem) (row : List ℕ) → IsRow p row → concat (inputs_of p row) ≡ row
+RowsAreJoined = (p : Problem) (row : List ℕ) → IsFieldRow p row → concat (inputs_of p row) ≡ row
 
 -- a row has as many inputs as the operation, and each of them is a tuple
 abbrev pub InputsAreTuples : Type 0
-InputsAreTuples = (p : Problem) (row : List ℕ) → IsRow p row →
+InputsAreTuples = (p : Problem) (row : List ℕ) → IsFieldRow p row →
     (length (inputs_of p row) ≡ p.inputs) × All (IsTuple p.width (fields_of p.kind)) (inputs_of p row)
 
 -- tuples, one for each input, put together are a row, whose inputs they are
 abbrev pub TuplesAreCut : Type 0
 TuplesAreCut = (p : Problem) (inputs : List (List ℕ)) →
     length inputs ≡ p.inputs → All (IsTuple p.width (fields_of p.kind)) inputs →
-    IsRow p (concat inputs) × (inputs_of p (concat inputs) ≡ inputs)
+    IsFieldRow p (concat inputs) × (inputs_of p (concat inputs) ≡ inputs)
 
 -- the same of abstract values
 abbrev pub InputsAreCut : Type 0
 InputsAreCut = (p : Problem) (inputs : List (List ℕ)) → AreInputs (question_of p) inputs →
-    IsRow p (concat inputs) × (inputs_of p (concat inputs) ≡ inputs)
+    IsFieldRow p (concat inputs) × (inputs_of p (concat inputs) ≡ inputs)
 
 -- the inputs of a row are abstract values exactly where each of them is valid
 abbrev pub RowsAreInputs : Type 0
-RowsAreInputs = (p : Problem) (row : List ℕ) → IsRow p row →
+RowsAreInputs = (p : Problem) (row : List ℕ) → IsFieldRow p row →
     AreInputs (question_of p) (inputs_of p row) ↔ All ((meaning_of p.kind).Valid p.width) (inputs_of p row)
 
 -- words that are members of inputs are words of the problem
 abbrev pub MembersAreWords : Type 0
 MembersAreWords = (p : Problem) (inputs : List (List ℕ)) (words : List ℕ) →
-    length inputs ≡ p.inputs → AreMembers (question_of p) inputs words → AreWordsOf p words
+    length inputs ≡ p.inputs → AreMembers (question_of p) inputs words → AreInputWords p words
 
 -- the words of a problem are members of inputs exactly where each one is a member of the input at its place
 abbrev pub WordsAreMembers : Type 0
 WordsAreMembers = (p : Problem) (inputs : List (List ℕ)) (words : List ℕ) →
-    length inputs ≡ p.inputs → AreWordsOf p words →
+    length inputs ≡ p.inputs → AreInputWords p words →
     AreMembers (question_of p) inputs words
     ↔ ((k : ℕ) → k < p.inputs → IsMember (question_of p) (slice_index_or inputs k []) (slice_index words k))
 
@@ -92,18 +92,18 @@ InputsAreParts = (p : Problem) (row : List ℕ) (i : ℕ) → i < p.inputs →
 
 -- the result of a transformer has the values of its terms at the row
 abbrev pub ResultsAreValues : Type 0
-ResultsAreValues = (p : Problem) (terms : List Term) (row : List ℕ) → IsRow p row →
+ResultsAreValues = (p : Problem) (terms : List Term) (row : List ℕ) → IsFieldRow p row →
     results (question_of p) terms (inputs_of p row) ≡ map (λ t. val p.width t row) terms
 
 -- the result of a transformer is a tuple
 abbrev pub ResultsAreTuples : Type 0
 ResultsAreTuples = (p : Problem) → IsFormed p → (terms : List Term) (row : List ℕ) →
-    IsTransformer p terms → IsRow p row →
+    IsTransformer p terms → IsFieldRow p row →
     IsTuple p.width (fields_of p.kind) (results (question_of p) terms (inputs_of p row))
 
 -- the value of an operation is a word
 abbrev pub OperationsGiveWords : Type 0
-OperationsGiveWords = (p : Problem) → IsFormed p → (words : List ℕ) → AreWordsOf p words →
+OperationsGiveWords = (p : Problem) → IsFormed p → (words : List ℕ) → AreInputWords p words →
     val p.width p.operation words < 2 ^ p.width
 
 -- a row has at most 12 words

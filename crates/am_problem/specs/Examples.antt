@@ -23,12 +23,12 @@ abbrev pub all_fields : Problem → ℕ
 all_fields p = p.inputs * fields_of p.kind
 
 -- the fields of all inputs
-abbrev pub IsRow : Problem → List ℕ → Type 0
-IsRow p row = IsTuple p.width (all_fields p) row
+abbrev pub IsFieldRow : Problem → List ℕ → Type 0
+IsFieldRow p row = IsTuple p.width (all_fields p) row
 
 -- one word for each input
-abbrev pub AreWordsOf : Problem → List ℕ → Type 0
-AreWordsOf p words = IsTuple p.width p.inputs words
+abbrev pub AreInputWords : Problem → List ℕ → Type 0
+AreInputWords p words = IsTuple p.width p.inputs words
 
 -- one term for each field of the result, over the fields of all inputs
 pub record IsTransformer (p : Problem) (terms : List Term) : Type 0 where
@@ -37,12 +37,12 @@ pub record IsTransformer (p : Problem) (terms : List Term) : Type 0 where
 
 -- the rows of a positive example
 pub record IsPositive (p : Problem) (e : StoredPositive) : Type 0 where
-  pub row : IsRow p e.inputs
-  pub words : AreWordsOf p e.words
+  pub row : IsFieldRow p e.inputs
+  pub words : AreInputWords p e.words
 
 -- the row and the word of a negative example
 pub record IsNegative (p : Problem) (e : StoredNegative) : Type 0 where
-  pub row : IsRow p e.inputs
+  pub row : IsFieldRow p e.inputs
   pub word : e.word < 2 ^ p.width
 
 -- the examples that stored ones stand for

@@ -89,8 +89,8 @@ made_rules s w kind =
     rules_of ((abstraction_of kind).top w) (fields_of kind) (field_operators s) (argument_operator s)
 
 -- the problem of a number
-abbrev pub made : ℕ → Problem
-made n = record {
+abbrev pub made_problem_of : ℕ → Problem
+made_problem_of n = record {
   width = made_width n;
   inputs = 2;
   operation = binary (made_operation n) (Field 0) (Field 1);

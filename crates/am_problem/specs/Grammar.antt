@@ -1,5 +1,6 @@
 -- The grammar of a problem's text, line by line.
-use Rattle.std.specs.Prelude.{◌≡◌, ℕ, ◌-◌, ◌*◌, ◌<◌, Bool, false, ◌&&◌, ◌||◌, not, ◌==◌, nat_le, if◌then◌else◌, List}
+use Rattle.std.specs.Prelude.{◌≡◌, ℕ, ◌-◌, ◌*◌, ◌<◌, Bool, false, ◌&&◌, ◌||◌, not, ◌==◌, nat_le, nat_lt, if◌then◌else◌}
+use Rattle.std.specs.Prelude.{List}
 use Rattle.std.specs.Prelude.{[], ◌∷◌, length, map, sum_by, Option, Result, Ok, Err, bytes_eq, codes, ◌⊎◌, IsTrue, find}
 use Rattle.std.specs.List.{list_any}
 use Rattle.std.proofs.Common.{inl, inr}
@@ -15,8 +16,9 @@ use Rattle.am_syntax.specs.Spelling.{Scope}
 use Rattle.am_problem.specs.Kinds.{all_kinds, fields_of, kind_name}
 use Rattle.am_syntax.specs.Numerals.{is_name}
 use Rattle.am_syntax.specs.Readers.{Word, Words}
-use Rattle.am_syntax.specs.Pieces.{◌▹◌, Piece, choice, closed, closed_or, count, keyed, keyed_or, name_or, next_is}
-use Rattle.am_syntax.specs.Pieces.{number, optional, repeat, seen_as, times, token}
+use Rattle.am_syntax.specs.Pieces.{◌▹◌, Piece, choice, closed, closed_or, count, key, keyed, keyed_number, keyed_or}
+use Rattle.am_syntax.specs.Pieces.{name_or, name_too_many, next_is, number, one_more, optional, repeat, seen_as, times}
+use Rattle.am_syntax.specs.Pieces.{token, too_early, width}
 use Rattle.am_syntax.specs.Names.{is_op_name, named, operator}
 use Rattle.am_syntax.specs.Terms.{term_within}
 use Rattle.am_problem.specs.Lines.{Budgets, Lines, Header, Production, Rule, leaf, node}
@@ -46,19 +48,15 @@ header_parts h = (1, (h.width, (h.inputs, (h.operation, h.assume))))
 -- the lines up to that of the assumption
 unfoldable pub header : Piece Header
 header = seen_as header_of header_parts (
-    keyed (codes "amurth") (number 1 1) ▹ λ _.
-    keyed (codes "width") (number 2 8) ▹ λ w.
-    keyed (codes "operation") (number 1 3) ▹ λ n.
+    keyed_number (codes "amurth") 1 1 ▹ λ _.
+    width ▹ λ w.
+    keyed_number (codes "operation") 1 3 ▹ λ n.
     small_term (scope_at w X n) ▹ λ _.
     optional (codes "assume") (small_term (scope_at w X n)))
 
--- this word comes too early, so something is missing; any other word is wrong
-abbrev pub late : Word → Word → Cause
-late word v = if bytes_eq v word then Count else Syntax
-
 -- a name where this word would come too early
 abbrev pub name_before : Word → Piece Word
-name_before word = name_or (late word)
+name_before word = name_or (too_early word)
 
 -- ---- domain NAME
 
@@ -74,6 +72,10 @@ domain_judge v = named (kind_named v) v
 unfoldable pub domain : Piece Kind
 domain = token domain_judge kind_name (λ _. Unit {0})
 
+-- domain and its name
+abbrev pub keyed_domain : Piece Kind
+keyed_domain = keyed (codes "domain") domain
+
 -- ---- start NONTERMINAL { NONTERMINAL }
 
 -- a nonterminal for each field of the result
@@ -81,10 +83,6 @@ unfoldable pub starts : ℕ → Piece (List Word)
 starts k = keyed (codes "start") (times (λ _. name_before (codes "depth")) k)
 
 -- ---- depth D, turns T, conflicts C
-
--- one name too many
-abbrev pub no_name_more : Word → Cause
-no_name_more v = if is_name v then Count else Syntax
 
 -- what may be spent, of its parts
 abbrev pub budgets_of : ℕ × (ℕ × ℕ) → Budgets
@@ -97,19 +95,15 @@ budgets_parts b = (b.depth, (b.turns, b.conflicts))
 -- the lines of the depth, of the turns and of the conflicts
 unfoldable pub budgets : Piece Budgets
 budgets = seen_as budgets_of budgets_parts (
-    keyed_or no_name_more (codes "depth") (number 1 5) ▹ λ _.
-    keyed (codes "turns") (number 0 4096) ▹ λ _.
-    keyed (codes "conflicts") (number 1 1000000))
+    keyed_or name_too_many (codes "depth") (number 1 5) ▹ λ _.
+    keyed_number (codes "turns") 0 4096 ▹ λ _.
+    keyed_number (codes "conflicts") 1 1000000)
 
 -- ---- rule NONTERMINAL { PRODUCTION }
 
--- a parenthesis, where a production may come
-abbrev pub opening_judge : ℕ → Word → Result (Unit {0}) Cause
-opening_judge room v = if bytes_eq v (codes "(") then (if room == 0 then Err Count else Ok tt) else Err Syntax
-
 -- the parenthesis of a production, of so many more at most
-unfoldable pub opening : ℕ → Piece (Unit {0})
-opening room = token (opening_judge room) (λ _. codes "(") (λ _. 0 < room)
+abbrev pub opening : ℕ → Piece (Unit {0})
+opening room = one_more (nat_lt 0 room) (key (codes "("))
 
 -- an operator, as many nonterminals as its arity, and a parenthesis
 unfoldable pub node_production : ℕ → Piece (Unit {0} × (Op × List Word))
@@ -163,8 +157,8 @@ rule_name seen =
     (has_name (names_of seen) v ≡ false))
 
 -- how many productions rules have together
-abbrev pub made : List Rule → ℕ
-made rules = sum_by (λ (r : Rule). length r.productions) rules
+abbrev pub productions_of_rules : List Rule → ℕ
+productions_of_rules rules = sum_by (λ (r : Rule). length r.productions) rules
 
 -- whether a production comes
 abbrev pub goes_on : Words → Bool
@@ -187,7 +181,7 @@ rule_parts r = (r.name, r.productions)
 unfoldable pub rule : Scope → List Rule → Piece Rule
 rule scope seen =
     seen_as rule_of rule_parts (keyed (codes "rule")
-    (rule_name seen ▹ λ _. productions scope (64 - made seen)))
+    (rule_name seen ▹ λ _. productions scope (64 - productions_of_rules seen)))
 
 -- all rules, as long as one comes
 unfoldable pub rules : Scope → Piece (List Rule)
@@ -210,7 +204,7 @@ lines_parts d = (d.header, (d.kind, (d.starts, (d.budgets, d.rules))))
 unfoldable pub problem : Piece Lines
 problem = seen_as lines_of lines_parts (
     header ▹ λ h.
-    keyed (codes "domain") domain ▹ λ k.
+    keyed_domain ▹ λ k.
     starts (fields_of k) ▹ λ _.
     budgets ▹ λ _.
     closed (codes "end") (rules (scope_at h.width F (h.inputs * fields_of k))))

@@ -7,7 +7,7 @@ use Rattle.am_bits.specs.Parities.{all_parities}
 use Rattle.am_domain.specs.Abstraction.{Abstraction}
 use Rattle.am_domain.specs.Meaning.{Meaning}
 use Rattle.am_interval.specs.Domains.{signed_intervals, unsigned_intervals}
-use Rattle.am_pair.specs.Pairs.{product}
+use Rattle.am_pair.specs.Pairs.{domain_product}
 use Rattle.am_wrap.specs.WrappedIntervals.{all_wrapped_intervals}
 use Rattle.am_problem.specs.declared.kind.Kind.{Kind}
 use Rattle.am_problem.specs.declared.kind.Kind.TheVariants.{UInterval, SInterval, KnownBits}
@@ -40,9 +40,9 @@ abstraction_of KnownBits = all_known_bits
 abstraction_of Parity = all_parities
 abstraction_of Congruence = all_congruences
 abstraction_of WInterval = all_wrapped_intervals
-abstraction_of UIntervalKnown = product unsigned_intervals all_known_bits
-abstraction_of UIntervalCongruence = product unsigned_intervals all_congruences
-abstraction_of WIntervalCongruence = product all_wrapped_intervals all_congruences
+abstraction_of UIntervalKnown = domain_product unsigned_intervals all_known_bits
+abstraction_of UIntervalCongruence = domain_product unsigned_intervals all_congruences
+abstraction_of WIntervalCongruence = domain_product all_wrapped_intervals all_congruences
 
 -- what the abstract values of a kind mean
 abbrev pub meaning_of : Kind → Meaning

@@ -25,9 +25,9 @@ pub record IsOperation (w inputs : ℕ) (t : Term) : Type 0 where
   pub small : nodes t ≤ 64
 
 -- a leaf is over the fields
-abbrev pub IsOver : ℕ → ℕ → Production → Type 0
-IsOver w fields (Leaf t) = IsTrue (fits w fields t)
-IsOver w fields (Node op names) = Unit {0}
+abbrev pub IsLeafOver : ℕ → ℕ → Production → Type 0
+IsLeafOver w fields (Leaf t) = IsTrue (fits w fields t)
+IsLeafOver w fields (Node op names) = Unit {0}
 
 -- the number of a nonterminal of a problem
 abbrev pub IsNonterminal : Problem → ℕ → Type 0
@@ -36,7 +36,7 @@ IsNonterminal p n = n < length p.names
 -- a production that may stand in the grammar of a problem: of its nonterminals, or over the fields of its inputs
 pub record IsProductionOf (p : Problem) (q : Production) : Type 0 where
   pub production : IsTrue (is_production (length p.rules) q)
-  pub over : IsOver p.width (p.inputs * fields_of p.kind) q
+  pub over : IsLeafOver p.width (p.inputs * fields_of p.kind) q
 
 -- no name stands twice
 abbrev pub AreApart : List Word → Type 0
@@ -56,7 +56,7 @@ pub record IsFormed (p : Problem) : Type 0 where
   pub operation : IsOperation p.width p.inputs p.operation
   pub assume : IfSome p.assume (IsOperation p.width p.inputs)
   pub grammar : IsGrammar p.rules p.starts p.depth
-  pub leaves : All (All (IsOver p.width (p.inputs * fields_of p.kind))) p.rules
+  pub leaves : All (All (IsLeafOver p.width (p.inputs * fields_of p.kind))) p.rules
   pub names : AreNames p.rules p.names
   pub start_per_field : length p.starts ≡ fields_of p.kind
   pub turns : p.turns ≤ 4096

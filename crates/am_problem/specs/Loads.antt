@@ -8,19 +8,19 @@ use Rattle.am_problem.specs.Kinds.{valid_term_of, member_term_of}
 use Rattle.am_problem.specs.Problem.{Problem}
 
 -- a term, and the test whether its value isn't 0
-abbrev pub test_weight : ℕ → Term → ℕ
-test_weight w t = weight w t + w
+abbrev pub tested_term_weight : ℕ → Term → ℕ
+tested_term_weight w t = weight w t + w
 
 -- an assumption and its test, where there is one
 abbrev pub assumption_weight : ℕ → Option Term → ℕ
 assumption_weight w None = 0
-assumption_weight w (Some t) = test_weight w t
+assumption_weight w (Some t) = tested_term_weight w t
 
 -- A bound on the gates of each formula of the problem: for each turn and two more, a block, four tests of membership
 -- and two of validity; and the operation and its assumption.
 abbrev pub load_of : Problem → ℕ
 load_of p =
     (p.turns + 2) * (block_weight p.rules p.width (p.depth - 1) p.starts
-    + 4 * test_weight p.width (member_term_of p.kind p.width)
-    + 2 * test_weight p.width (valid_term_of p.kind p.width))
+    + 4 * tested_term_weight p.width (member_term_of p.kind p.width)
+    + 2 * tested_term_weight p.width (valid_term_of p.kind p.width))
     + weight p.width p.operation + assumption_weight p.width p.assume

@@ -10,7 +10,7 @@ use Rattle.am_problem.specs.Kinds.{kind_name}
 use Rattle.am_problem.specs.Limits.{IsProblem}
 use Rattle.am_problem.specs.Lines.{Budgets, Header, Lines, Production, Rule, leaf, node}
 use Rattle.am_problem.specs.Problem.{Problem}
-use Rattle.am_problem.specs.Texts.{Reads, named}
+use Rattle.am_problem.specs.Texts.{ReadsAsProblem, named}
 
 -- the line of the operation
 abbrev pub operation_row : Header → Words
@@ -64,8 +64,8 @@ problem_rows l =
     (codes "end" ∷ []) ∷ [])))
 
 -- the words of rows, one row after another
-abbrev pub joined : List Words → Words
-joined rows = flat_map (λ ws. ws) rows
+abbrev pub joined_rows_of : List Words → Words
+joined_rows_of rows = flat_map (λ ws. ws) rows
 
 -- the text of a problem, with the line of an assumption exactly where there is one
 unfoldable pub problem_text : Problem → List ℕ
@@ -73,4 +73,4 @@ problem_text p = lines (problem_rows (named p))
 
 -- what was printed reads back
 abbrev pub CanonicalTextsAreRead : Type 0
-CanonicalTextsAreRead = (p : Problem) → IsProblem p → Reads (problem_text p) p
+CanonicalTextsAreRead = (p : Problem) → IsProblem p → ReadsAsProblem (problem_text p) p

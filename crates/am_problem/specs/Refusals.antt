@@ -11,7 +11,7 @@ use Rattle.am_problem.specs.Limits.{IsFormed, slots_of}
 use Rattle.am_problem.specs.LineLimits.{IsLines}
 use Rattle.am_problem.specs.Lines.{Lines}
 use Rattle.am_problem.specs.Loads.{load_of}
-use Rattle.am_problem.specs.Printing.{begun_rows, joined, problem_rows}
+use Rattle.am_problem.specs.Printing.{begun_rows, joined_rows_of, problem_rows}
 use Rattle.am_problem.specs.Texts.{is_undefined, numbered, problem_of}
 
 -- ---- a rule begins
@@ -23,7 +23,7 @@ pub record BeginsRule (text : List ℕ) (l : Lines) (token : Placed) : Type 0 wh
   pub before : List Placed
   pub after : List Placed
   pub tokens : tokens_at 0 text ≡ before ++ token ∷ after
-  pub words : words_in before ≡ joined (begun_rows l) ++ codes "rule" ∷ []
+  pub words : words_in before ≡ joined_rows_of (begun_rows l) ++ codes "rule" ∷ []
   pub name : IsTrue (is_name token.word)
 
 -- ---- all tokens are those of lines
@@ -31,7 +31,7 @@ pub record BeginsRule (text : List ℕ) (l : Lines) (token : Placed) : Type 0 wh
 -- a text has the words of these lines, which are within their limits, and no others
 pub record IsOfLines (text : List ℕ) (l : Lines) : Type 0 where
   pub allowed : bad_byte text ≡ None
-  pub words : words_of text ≡ joined (problem_rows l)
+  pub words : words_of text ≡ joined_rows_of (problem_rows l)
   pub limits : IsLines l
 
 -- the first token that is a name without a rule has this place

@@ -27,6 +27,6 @@ abbrev pub seen : Inside → Problem
 seen p = seen_parts p.parts
 
 -- it is within all limits, and its load is noted
-pub record IsInside (p : Inside) : Type 0 where
+pub record IsStoredProblem (p : Inside) : Type 0 where
   pub within : IsProblem (seen p)
   pub noted : p.load ≡ load_of (seen p)

@@ -10,7 +10,7 @@ abbrev pub seen : Inside → Draft
 seen d = record { lines = seen_lines d.lines; undefined = d.undefined }
 
 -- where each name has a rule, the lines are those of a problem whose parts are within their limits
-pub record IsInside (d : Inside) : Type 0 where
+pub record IsStoredDraft (d : Inside) : Type 0 where
   pub formed : d.undefined ≡ None → IsFormed (numbered (seen_lines d.lines))
 
 -- contracts see a draft as it is

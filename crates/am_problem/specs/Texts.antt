@@ -1,11 +1,12 @@
 -- A problem's whole text: what it says, and the first refusal of each that says nothing.
-use Rattle.std.specs.Prelude.{◌≡◌, ℕ, Bool, ◌&&◌, not, nat_lt, if◌then◌else◌, List, [], ◌∷◌, map, slice_index_or}
+use Rattle.std.specs.Prelude.{◌≡◌, ℕ, Bool, ◌&&◌, not, nat_lt, if◌then◌else◌, List, [], ◌∷◌, map, slice_index_or, find}
 use Rattle.std.specs.Prelude.{bytes_eq, codes, Option, Some, None, Result, Ok, Err, ◌⊎◌}
-use Rattle.std.specs.List.{position_or_len}
-use Rattle.am_text.specs.Tokens.{Placed, bad_byte, tokens_at, words_of}
+use Rattle.std.specs.List.{position_or_len, take_while}
+use Rattle.std.specs.Option.{option_map}
+use Rattle.am_text.specs.Tokens.{Placed, bad_byte, words_of}
 use Rattle.am_syntax.specs.Numerals.{is_name}
 use Rattle.am_syntax.specs.Readers.{◌>>=◌, Reader, Word, done}
-use Rattle.am_syntax.specs.Texts.{text_value}
+use Rattle.am_syntax.specs.Texts.{RefusesForGood, read_whole}
 use Rattle.am_syntax.specs.declared.refusal.Refusal.{Refusal}
 use Rattle.am_syntax.specs.declared.refusal.Refusal.TheVariants.{Load, Slots, Undefined}
 use Rattle.am_syntax.specs.declared.refusal.ReadError.{ReadError}
@@ -87,12 +88,14 @@ named p = record {
 abbrev pub is_undefined : List Word → Word → Bool
 is_undefined names v = is_name v && not (has_name names v)
 
--- the place of the first name that is no rule's, up to the problem's end
-abbrev pub undefined_in : List Word → List Placed → Option ℕ
-undefined_in names [] = None
-undefined_in names (t ∷ ts) =
-    if bytes_eq t.word (codes "end") then None else
-    if is_undefined names t.word then Some t.place else undefined_in names ts
+-- the tokens before a problem's end
+abbrev pub before_end : List Placed → List Placed
+before_end tokens = take_while (λ (t : Placed). not (bytes_eq t.word (codes "end"))) tokens
+
+-- the place of the first token before the end that is a name, as nonterminals alone are, and that no rule has
+unfoldable pub undefined_in : List Word → List Placed → Option ℕ
+undefined_in names tokens =
+    option_map (λ (t : Placed). t.place) (find (λ (t : Placed). is_undefined names t.word) (before_end tokens))
 
 -- a problem before its names are numbered and its size is tested
 pub record Draft : Type 0 where
@@ -125,28 +128,23 @@ settled d = settled_by d.lines d.undefined
 -- ---- whole texts
 
 -- the text is this problem's, which is within all limits
-pub record Reads (text : List ℕ) (p : Problem) : Type 0 where
+pub record ReadsAsProblem (text : List ℕ) (p : Problem) : Type 0 where
   pub allowed : bad_byte text ≡ None
   pub spelled : words_of text ≡ problem.spell (named p)
   pub limits : IsProblem p
 
--- the draft of the lines that a text has
-abbrev pub drafted : List ℕ → Result Lines Refusal → Result Draft Refusal
-drafted text (Ok l) = Ok (draft_with (tokens_at 0 text) l)
-drafted text (Err r) = Err r
-
 -- the draft of a text, or the first refusal of its bytes and tokens
 abbrev pub draft_of : List ℕ → Result Draft Refusal
-draft_of text = drafted text (text_value problem text)
+draft_of text = read_whole draft text
 
 -- the problem of a draft that was read
-abbrev pub all_settled : Result Draft Refusal → Result Problem Refusal
-all_settled (Ok d) = settled d
-all_settled (Err r) = Err r
+abbrev pub settled_problem_of : Result Draft Refusal → Result Problem Refusal
+settled_problem_of (Ok d) = settled d
+settled_problem_of (Err r) = Err r
 
 -- the problem of a text, or its first refusal
 abbrev pub problem_of : List ℕ → Result Problem Refusal
-problem_of text = all_settled (draft_of text)
+problem_of text = settled_problem_of (draft_of text)
 
 -- a refusal, and no want of memory
 abbrev pub IfRefused : ReadError → (Refusal → Type 0) → Type 0
@@ -155,14 +153,18 @@ IfRefused NoMemory P = Unit {0}
 
 -- the text is some problem's
 abbrev pub IsProblemText : List ℕ → Type 0
-IsProblemText text = (p : Problem) × Reads text p
+IsProblemText text = (p : Problem) × ReadsAsProblem text p
 
 -- a text is one problem's at most
 abbrev pub IsOneProblem : List ℕ → Type 0
-IsOneProblem text = (p q : Problem) → Reads text p → Reads text q → p ≡ q
+IsOneProblem text = (p q : Problem) → ReadsAsProblem text p → ReadsAsProblem text q → p ≡ q
+
+-- a token that is refused in a problem's place is refused whatever follows it
+abbrev pub ProblemsAreRefusedForGood : Type 0
+ProblemsAreRefusedForGood = RefusesForGood draft IsProblemText
 
 -- a text is some problem's and has no refusal, or it is none's and has one
 abbrev pub IsSettledProblem : List ℕ → Type 0
 IsSettledProblem text =
-    ((p : Problem) × Reads text p × ((r : Refusal) → problem_of text ≡ Err r → ⊥)) ⊎
-    ((r : Refusal) × (problem_of text ≡ Err r) × ((p : Problem) → Reads text p → ⊥))
+    ((p : Problem) × ReadsAsProblem text p × ((r : Refusal) → problem_of text ≡ Err r → ⊥)) ⊎
+    ((r : Refusal) × (problem_of text ≡ Err r) × ((p : Problem) → ReadsAsProblem text p → ⊥))

@@ -73,9 +73,9 @@ impl<'a> Model for Draft<'a> {
 
     ghost coded = { Prim.hlevel (codes, term.the_row.coded) };
 
-    ghost use Rattle.am_problem.specs.StoredDraft.{IsInside, seen};
+    ghost use Rattle.am_problem.specs.StoredDraft.{IsStoredDraft, seen};
 
     ghost view = { seen };
 
-    ghost invariant = { IsInside };
+    ghost invariant = { IsStoredDraft };
 }

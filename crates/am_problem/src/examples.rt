@@ -5,7 +5,7 @@ ghost use Rattle.std.specs.Prelude.{◌≡◌, ◌^◌, ◌<◌, ◌≤◌, ◌�
 ghost use Rattle.am_domain.specs.Examples.{Covers, Excludes, IsTrueExample};
 ghost use Rattle.am_domain.specs.Question.{AreInputs, AreMembers, IsMember, results};
 ghost use Rattle.am_domain.specs.Tuple.{IsTuple};
-ghost use Rattle.am_problem.specs.Examples.{AreWordsOf, IsNegative, IsPositive, IsRow, IsTransformer};
+ghost use Rattle.am_problem.specs.Examples.{AreInputWords, IsFieldRow, IsNegative, IsPositive, IsTransformer};
 ghost use Rattle.am_problem.specs.Examples.{all_fields, inputs_of, negative_of, positive_of};
 ghost use Rattle.am_problem.specs.Kinds.{fields_of};
 ghost use Rattle.am_problem.specs.Problem.{question_of};
@@ -80,7 +80,7 @@ impl Problem {
     /// What a transformer answers at the inputs: the values of its terms at the fields of all of them.
     pub fn result(&self, t: &Transformer, inputs: &Inputs) -> Fields
         requires transformer { IsTransformer self.now t.now }
-        requires row { IsRow self.now inputs.now }
+        requires row { IsFieldRow self.now inputs.now }
         ensures value { result ≡ results (question_of self.now) t.now (inputs_of self.now inputs.now) }
         ensures tuple { IsTuple self.now.width (fields_of self.now.kind) result }
     {
@@ -94,7 +94,7 @@ impl Problem {
 
     /// Whether each of the inputs is an abstract value.
     pub fn is_valid(&self, inputs: &Inputs) -> bool
-        requires { IsRow self.now inputs.now }
+        requires { IsFieldRow self.now inputs.now }
         ensures { IsTrue result ↔ AreInputs (question_of self.now) (inputs_of self.now inputs.now) }
     {
         for i in 0..self.inputs() {
@@ -108,7 +108,7 @@ impl Problem {
 
     /// Whether there is no assumption, or its value at the words isn't 0.
     pub fn assumed(&self, words: &WordRow) -> bool
-        requires { AreWordsOf self.now words.now }
+        requires { AreInputWords self.now words.now }
         ensures { IsTrue result ↔ (question_of self.now).Assumed words.now }
     {
         self.keeps_limits();
@@ -150,7 +150,7 @@ impl Problem {
     /// Whether a transformer's result at the inputs has the word.
     fn admits(&self, t: &Transformer, inputs: &Inputs, word: u8) -> bool
         requires transformer { IsTransformer self.now t.now }
-        requires row { IsRow self.now inputs.now }
+        requires row { IsFieldRow self.now inputs.now }
         requires word { word < 2 ^ self.now.width }
         ensures { let q = question_of self.now in
             IsTrue result ↔ IsMember q (results q t.now (inputs_of self.now inputs.now)) word }
@@ -161,8 +161,8 @@ impl Problem {
 
     /// Whether each of the inputs has the word at its place.
     fn are_members(&self, inputs: &Inputs, words: &WordRow) -> bool
-        requires row { IsRow self.now inputs.now }
-        requires words { AreWordsOf self.now words.now }
+        requires row { IsFieldRow self.now inputs.now }
+        requires words { AreInputWords self.now words.now }
         ensures { IsTrue result ↔ AreMembers (question_of self.now) (inputs_of self.now inputs.now) words.now }
     {
         for (i, word) in words.as_slice().iter().enumerate() {
@@ -178,7 +178,7 @@ impl Problem {
 
     /// The fields of the input at place `i`, counted from 0.
     fn input(&self, inputs: &Inputs, i: usize) -> Fields
-        requires row { IsRow self.now inputs.now }
+        requires row { IsFieldRow self.now inputs.now }
         requires place { i < self.now.inputs }
         ensures value { result ≡ slice_index_or (inputs_of self.now inputs.now) i [] }
         ensures tuple { IsTuple self.now.width (fields_of self.now.kind) result }

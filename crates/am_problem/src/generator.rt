@@ -2,7 +2,8 @@
 
 ghost use Rattle.std.specs.Prelude.{◌≡◌, ◌≤◌, ◌<◌, ◌^◌, ◌*◌, IfOk};
 ghost use Rattle.std.specs.List.{range_with_len};
-ghost use Rattle.am_problem.specs.Generator.{HasSound, argument_rule, field_rule, made, made_depth, made_kind};
+ghost use Rattle.am_problem.specs.Generator.{HasSound, argument_rule, field_rule, made_depth, made_kind};
+ghost use Rattle.am_problem.specs.Generator.{made_problem_of};
 ghost use Rattle.am_problem.specs.Generator.{made_names, made_operation, made_operator, made_rules, made_width};
 ghost use Rattle.am_problem.specs.Generator.{pair_production};
 ghost use Rattle.am_problem.specs.Stored.{seen_parts};
@@ -74,7 +75,7 @@ const CONFLICTS: u32 = 200_000;
 /// value, so each such problem has a sound transformer.
 pub fn make_problem(alloc: Global, n: u32) -> Result<Problem, AllocError>
     requires { n ≤ 999999 }
-    ensures made { IfOk result (λ p. p ≡ made n) }
+    ensures made { IfOk result (λ p. p ≡ made_problem_of n) }
     ensures solvable { IfOk result HasSound }
 {
     let parts = parts_of(alloc, n)?;
@@ -84,7 +85,7 @@ pub fn make_problem(alloc: Global, n: u32) -> Result<Problem, AllocError>
 
 /// The parts of the problem of a number.
 fn parts_of(alloc: Global, n: u32) -> Result<Parts, AllocError>
-    ensures { IfOk result (λ parts. seen_parts parts ≡ made n) }
+    ensures { IfOk result (λ parts. seen_parts parts ≡ made_problem_of n) }
 {
     let width = width_of(n);
     let kind = kind_of(n);

@@ -18,13 +18,15 @@
 //! text has, within the limits, or the first refusal: of a byte; then from the left of a token, by the
 //! grammar in `specs/Grammar.antt`; then of a name without a rule; then of the slots; then of the load. For
 //! each text exactly one of the two exists ([`texts_are_settled`]), and a text is one problem's at most
-//! ([`texts_have_one_problem`]). [`refusals_come_in_order`] tells the order by what stands in the text: a
-//! rule's name is counted before it is compared with earlier ones, and names without rules, the slots and the
-//! load are refused only in a text whose tokens are all right. [`Problem::load`] is the bound on the gates of
-//! the problem's formulas in `specs/Loads.antt`. [`print_problem`] appends exactly the lines of
-//! `specs/Printing.antt`, or where memory runs out a part of them from the beginning, and what was printed
-//! reads back as the problem ([`canonical_texts_are_read`]). [`make_problem`] answers exactly the problem
-//! that `specs/Generator.antt` has for the number; it is within all limits, and has a sound transformer.
+//! ([`texts_have_one_problem`]). No problem's text begins with the words of a refused one up to and
+//! including the refused token ([`refusals_are_for_good`]). [`refusals_come_in_order`] tells the order by
+//! what stands in the text: a rule's name is counted before it is compared with earlier ones, and names
+//! without rules, the slots and the load are refused only in a text whose tokens are all right.
+//! [`Problem::load`] is the bound on the gates of the problem's formulas in `specs/Loads.antt`.
+//! [`print_problem`] appends exactly the lines of `specs/Printing.antt`, or where memory runs out a part of
+//! them from the beginning, and what was printed reads back as the problem ([`canonical_texts_are_read`]).
+//! [`make_problem`] answers exactly the problem that `specs/Generator.antt` has for the number; it is within
+//! all limits, and has a sound transformer.
 //!
 //! [`Problem::result`] is what a transformer answers, [`Problem::is_valid`], [`Problem::assumed`] and
 //! [`Problem::is_true`] are true exactly where inputs are abstract values, words meet the assumption and
@@ -44,6 +46,7 @@ mod numbering;
 mod parts;
 mod printing;
 mod problem;
+mod productions;
 mod rows;
 mod rules;
 mod settling;
@@ -52,7 +55,7 @@ mod text;
 pub use draft::Draft;
 pub use examples::{Negative, Negatives, Positive, Positives, Transformer};
 pub use generator::{LAST_PROBLEM, make_problem};
-pub use header::take_domain;
+pub use header::{take_domain, take_keyed_domain};
 pub use kind::Kind;
 pub use limits::{MOST_CONFLICTS, MOST_INPUTS, MOST_LOAD, MOST_NODES, MOST_SLOTS, MOST_TURNS};
 pub use parts::{Name, Names};
@@ -60,6 +63,6 @@ pub use printing::{canonical_texts_are_read, print_problem};
 pub use problem::Problem;
 pub use rows::{Inputs, ShortRow, WordRow};
 pub use text::{
-    problem_at, read_problem, refusals_come_in_order, take_problem, texts_are_settled,
-    texts_have_one_problem,
+    problem_at, read_problem, refusals_are_for_good, refusals_come_in_order, take_problem,
+    texts_are_settled, texts_have_one_problem,
 };

@@ -3,7 +3,7 @@
 ghost use Rattle.std.specs.Prelude.{◌≡◌, ◌≤◌, ◌<◌, ◌^◌, ◌*◌, ◌+◌, IfOk};
 ghost use Rattle.am_bv.specs.Terms.{nodes};
 ghost use Rattle.am_problem.specs.Limits.{IsFormed, slots_of};
-ghost use Rattle.am_problem.specs.Loads.{assumption_weight, load_of, test_weight};
+ghost use Rattle.am_problem.specs.Loads.{assumption_weight, load_of, tested_term_weight};
 ghost use Rattle.am_problem.specs.Stored.{seen_parts};
 
 use crate::kind::Kind;
@@ -65,7 +65,7 @@ impl Parts {
 /// The weight of a term, and of the test whether its value isn't 0.
 fn test_weight(w: Width, term: &Term) -> u64
     requires { nodes term.now ≤ 2 ^ 16 }
-    ensures value { result ≡ test_weight w term.now }
+    ensures value { result ≡ tested_term_weight w term.now }
     ensures most { result ≤ 2 ^ 32 }
 {
     term.weight(w) + u64::from(w.bits())

@@ -30,11 +30,11 @@ impl Model for Problem {
 
     ghost coded = { Prim.hlevel (codes, term.the_row.coded, production.the_row.coded) };
 
-    ghost use Rattle.am_problem.specs.Stored.{IsInside, seen};
+    ghost use Rattle.am_problem.specs.Stored.{IsStoredProblem, seen};
 
     ghost view = { seen };
 
-    ghost invariant = { IsInside };
+    ghost invariant = { IsStoredProblem };
 }
 
 impl Problem {

@@ -1,19 +1,19 @@
 //! The whole text of a problem.
 
-ghost use Rattle.std.specs.Prelude.{◌≡◌, ℕ, List, Err, IfErr, IfOk, None};
-ghost use Rattle.am_text.specs.Tokens.{bad_byte, text_left};
+ghost use Rattle.std.specs.Prelude.{◌≡◌, ℕ, List, Err, IfErr, IfOk};
 ghost use Rattle.am_syntax.specs.Readers.{Makes};
 ghost use Rattle.am_syntax.specs.declared.refusal.Failure.TheVariants.{NoMemory};
 ghost use Rattle.am_syntax.specs.declared.refusal.ReadError.TheVariants as read_error;
-ghost use Rattle.am_syntax.specs.Texts.{Answers, MakesAt, text_value};
+ghost use Rattle.am_syntax.specs.Texts.{Answers, MakesAt};
 ghost use Rattle.am_problem.specs.Grammar.{names_of, problem};
 ghost use Rattle.am_problem.specs.Refusals.{AreInOrder};
 ghost use Rattle.am_problem.specs.StoredLines.{seen_lines, seen_rules};
-ghost use Rattle.am_problem.specs.Texts.{IfRefused, IsOneProblem, IsProblemText, IsSettledProblem, Reads};
-ghost use Rattle.am_problem.specs.Texts.{draft, draft_of, problem_of, undefined_in};
+ghost use Rattle.am_problem.specs.Texts.{IfRefused, IsOneProblem, IsProblemText, IsSettledProblem};
+ghost use Rattle.am_problem.specs.Texts.{ProblemsAreRefusedForGood, ReadsAsProblem, draft, draft_of, problem_of};
+ghost use Rattle.am_problem.specs.Texts.{undefined_in};
 
 use crate::draft::{Draft, Lines, Rule, Scope};
-use crate::header::{read_budgets, read_domain, read_header, read_starts};
+use crate::header::{read_budgets, read_header, read_starts, take_keyed_domain};
 use crate::problem::Problem;
 use crate::rules::{has_name, read_rules};
 use am_domain::Domain;
@@ -27,7 +27,7 @@ fn read_lines<'a>(alloc: Global, text: &mut Cursor<'a>) -> Result<Lines<'a>, Fai
     ensures { Makes seen_lines result text.old text.new problem.read }
 {
     let header = read_header(alloc, text)?;
-    let kind = read_domain(text)?;
+    let kind = take_keyed_domain(text)?;
     let starts = read_starts(alloc, text, kind.fields())?;
     let budgets = read_budgets(text)?;
     let scope = Scope {
@@ -47,7 +47,7 @@ fn read_lines<'a>(alloc: Global, text: &mut Cursor<'a>) -> Result<Lines<'a>, Fai
 }
 
 /// The place of the first name that no rule has, up to `end`.
-#[tactic(auto, using(crate::proofs::Seen::seen))]
+#[tactic(auto, using(crate::proofs::Seen::seen, crate::proofs::FirstUndefined::first_undefined))]
 fn first_undefined(text: &mut Cursor<'_>, rules: &[Rule<'_>]) -> Option<usize>
     ensures { result ≡ undefined_in (names_of (seen_rules rules.now)) text.old.tokens }
 {
@@ -100,30 +100,14 @@ pub fn problem_at<'a>(alloc: Global, c: &mut Cursor<'a>) -> Result<Draft<'a>, Re
     placed(read, &*c)
 }
 
-/// The lines of a whole text, from its beginning.
-#[tactic(auto, unfolding(am_syntax::specs::Texts::text_value))]
-fn read_to_end<'a>(
-    alloc: Global,
-    text: &'a [u8],
-    mut cursor: Cursor<'a>,
-) -> Result<Lines<'a>, ReadError>
-    requires allowed { bad_byte text.now ≡ None }
-    requires whole { cursor ≡ text_left text.now }
-    ensures { Answers seen_lines result (text_value problem text.now) }
-{
-    let read = read_lines(alloc, &mut cursor);
-    close(read, &cursor)
-}
-
 /// Reads all of a text, before its names are numbered.
-#[tactic(auto, unfolding(am_syntax::specs::Texts::text_value))]
+#[tactic(auto, unfolding(am_syntax::specs::Texts::read_whole))]
 fn read_text<'a>(alloc: Global, text: &'a [u8]) -> Result<Draft<'a>, ReadError>
     ensures { Answers (λ d. d) result (draft_of text.now) }
 {
     let mut cursor = open(text)?;
-    let lines = read_to_end(alloc, text, cursor.fork())?;
-    let undefined = first_undefined(&mut cursor, lines.rules.as_slice());
-    Ok(Draft { lines, undefined })
+    let read = read_draft(alloc, &mut cursor);
+    close(read, &cursor)
 }
 
 /// Reads all of a text.
@@ -140,7 +124,7 @@ fn read_all(alloc: Global, text: &[u8]) -> Result<Problem, ReadError>
 /// `Refused`: the text is no problem's, with the first refusal.
 pub fn read_problem(alloc: Global, text: &[u8]) -> Result<Problem, ReadError>
     // What is read is the text's problem.
-    ensures found { IfOk result (λ p. Reads text.now p) }
+    ensures found { IfOk result (λ p. ReadsAsProblem text.now p) }
     // The text of a problem is read, unless memory runs out.
     ensures only { IsProblemText text.now → IfErr result (λ e. e ≡ read_error.NoMemory) }
     // Where nothing is read, the refusal is the first.
@@ -152,6 +136,11 @@ pub fn read_problem(alloc: Global, text: &[u8]) -> Result<Problem, ReadError>
 /// Each text is a problem's or has a first refusal, and not both.
 pub fn texts_are_settled()
     ensures { (text : List ℕ) → IsSettledProblem text }
+{}
+
+/// No problem's text begins with the words of a refused one up to and including the refused token.
+pub fn refusals_are_for_good()
+    ensures { ProblemsAreRefusedForGood }
 {}
 
 /// A text is one problem's at most.

@@ -10,19 +10,19 @@ use Rattle.am_chain.specs.Replay.{Refutes}
 use Rattle.am_chain.specs.Trimmed.{IsTrimmed, TrimmedChainsAreTheLogs}
 use Rattle.am_solve.specs.Answers.{ChainsAreShort, IsProgress}
 use Rattle.am_problem.specs.Problem.{Problem}
-use Rattle.am_query.specs.Answers.{IsNumbered, IsRefuted, IsSpentOn}
-use Rattle.am_query.specs.Formulas.{circuit_of}
+use Rattle.am_query.specs.Answers.{IsNumberedQuery, IsRefuted, IsSpentOn}
+use Rattle.am_query.specs.Formulas.{query_circuit}
 use Rattle.am_query.specs.inside.Stated.{IsStated}
 use Rattle.am_query.specs.declared.query.Query.{Query}
 use Rattle.am_query.specs.declared.stated.Stated.{Stated}
 
 module _ (p : Problem) (q : Query) (s : Stated) (is : IsStated true p q s) where
-  numbered : IsNumbered p q
+  numbered : IsNumberedQuery p q
   numbered = record {
     normal =
-        let vars : IsFormula s.formula.clauses (circuit_of true p q).vars =
+        let vars : IsFormula s.formula.clauses (query_circuit true p q).vars =
         subst (IsFormula s.formula.clauses) is.vars s.formula.normal in
-        subst (λ clauses. IsFormula clauses (circuit_of true p q).vars) is.clauses vars;
+        subst (λ clauses. IsFormula clauses (query_circuit true p q).vars) is.clauses vars;
     few_clauses = subst (λ (clauses : List (List ℕ)). length clauses < 2 ^ 31) is.clauses is.few_clauses;
     few_vars = subst (λ vars. vars < 2 ^ 30) is.vars is.few_vars;
   }
@@ -44,9 +44,9 @@ module _ (p : Problem) (q : Query) (s : Stated) (is : IsStated true p q s) where
     spent_by h = record {
       many = h.0;
       progress =
-          let vars : IsProgress s.formula.clauses (circuit_of true p q).vars log =
+          let vars : IsProgress s.formula.clauses (query_circuit true p q).vars log =
           subst (λ vars. IsProgress s.formula.clauses vars log) is.vars h.1 in
-          subst (λ clauses. IsProgress clauses (circuit_of true p q).vars log) is.clauses vars;
+          subst (λ clauses. IsProgress clauses (query_circuit true p q).vars log) is.clauses vars;
       short = subst (λ vars. ChainsAreShort vars log) is.vars h.2;
       numbered = numbered;
     }

@@ -15,12 +15,12 @@ use Rattle.am_tree.specs.declared.grammar.Production.{Production}
 use Rattle.am_tree.specs.declared.grammar.Production.TheVariants.{Leaf, Node}
 use Rattle.am_tree.specs.declared.tree.Tree.{Tree}
 use Rattle.am_slot.specs.Encoding.{AreOver, Encoding, IsEncoding, is_leaf_over}
-use Rattle.am_slot.specs.Template.{IsDerived, ReadAs, block, selectors_of, terms_of, weight_of_block}
-use Rattle.am_slot.specs.Theorems.{AgreeOnSelectors, Keeps, Serves}
+use Rattle.am_slot.specs.Template.{IsDerivedTuple, ReadAs, block, encoded_terms, selectors_of, weight_of_block}
+use Rattle.am_slot.specs.Theorems.{AgreeOnSelectors, KeepsTuple, Serves}
 use Rattle.am_slot.proofs.Laws.{blocks_make_their_weight}
-use Rattle.am_problem.specs.Examples.{IsRow, IsTransformer, all_fields, inputs_of}
+use Rattle.am_problem.specs.Examples.{IsFieldRow, IsTransformer, all_fields, inputs_of}
 use Rattle.am_problem.specs.Kinds.{fields_of}
-use Rattle.am_problem.specs.Limits.{IsFormed, IsOver}
+use Rattle.am_problem.specs.Limits.{IsFormed, IsLeafOver}
 use Rattle.am_problem.specs.Problem.{AreDerivable, Problem, question_of}
 use Rattle.am_problem.proofs.Laws.{derivable_terms_fit, rows_are_joined}
 use Rattle.am_query.specs.Formulas.{encoding_of, outputs}
@@ -40,7 +40,7 @@ module _ (p : Problem) (formed : IsFormed p) where
   pub encodes : IsEncoding (encoding_of p)
   encodes = record { grammar = formed.grammar; some_bit = some_bit p formed }
 
-  leaf-over : (q : Production) → IsOver w (all_fields p) q → IsTrue (is_leaf_over w (all_fields p) q)
+  leaf-over : (q : Production) → IsLeafOver w (all_fields p) q → IsTrue (is_leaf_over w (all_fields p) q)
   leaf-over (Leaf t) h = h
   leaf-over (Node op names) h = refl
 
@@ -54,7 +54,7 @@ module _ (p : Problem) (formed : IsFormed p) where
     pub values : map (reads v) tuple ≡ results (question_of p) terms (inputs_of p row)
 
   -- values of terms are a result
-  valued : (v : ℕ → Bool) (terms : List Term) → length terms ≡ k → (row : List ℕ) → IsRow p row →
+  valued : (v : ℕ → Bool) (terms : List Term) → length terms ≡ k → (row : List ℕ) → IsFieldRow p row →
       (tuple : List (List ℕ)) →
       All (λ word. length word ≡ w) tuple → map (reads v) tuple ≡ map (λ t. val w t row) terms →
       ReadsResults v terms row tuple
@@ -66,7 +66,8 @@ module _ (p : Problem) (formed : IsFormed p) where
     values = e ∙ sym (ap (λ env. map (λ t. val w t env) terms) (rows_are_joined p row is));
   }
 
-  reads-row : (v : ℕ → Bool) (fields : List (List ℕ)) → AreLong w (all_fields p) fields → IsRow p (map (reads v) fields)
+  reads-row : (v : ℕ → Bool) (fields : List (List ℕ)) → AreLong w (all_fields p) fields → IsFieldRow p
+      (map (reads v) fields)
   reads-row v fields h = IsTuple-reads v w (all_fields p) fields h
 
   -- ---- a given transformer
@@ -107,24 +108,26 @@ module _ (p : Problem) (formed : IsFormed p) where
   e = encoding_of p
 
   -- the terms of trees that derive are derivable
-  pub tuple_derivable : (ts : List Tree) → IsDerived (encoding_of p) ts →
-      AreDerivable p.rules p.starts p.depth (terms_of (encoding_of p) ts)
+  pub tuple_derivable : (ts : List Tree) → IsDerivedTuple (encoding_of p) ts →
+      AreDerivable p.rules p.starts p.depth (encoded_terms (encoding_of p) ts)
   tuple_derivable ts h = record { trees = ts; derive = h; give = refl }
 
-  pub tuple_fits : (ts : List Tree) → IsDerived (encoding_of p) ts → IsTransformer p (terms_of (encoding_of p) ts)
-  tuple_fits ts h = derivable_terms_fit p formed (terms_of e ts) (tuple_derivable ts h)
+  pub tuple_fits : (ts : List Tree) → IsDerivedTuple (encoding_of p) ts → IsTransformer p
+      (encoded_terms (encoding_of p) ts)
+  tuple_fits ts h = derivable_terms_fit p formed (encoded_terms e ts) (tuple_derivable ts h)
 
-  read_as : (v : ℕ → Bool) (ts : List Tree) → IsDerived e ts → (fields : List (List ℕ)) →
+  read_as : (v : ℕ → Bool) (ts : List Tree) → IsDerivedTuple e ts → (fields : List (List ℕ)) →
       AreLong w (all_fields p) fields →
-      (tuple : List (List ℕ)) → ReadAs e fields v ts tuple → ReadsResults v (terms_of e ts) (map (reads v) fields) tuple
+      (tuple : List (List ℕ)) → ReadAs e fields v ts tuple → ReadsResults v (encoded_terms e ts) (map (reads v) fields)
+      tuple
   read_as v ts d fields h tuple r =
-      valued v (terms_of e ts) (tuple_fits ts d).counted (map (reads v) fields) (reads-row v fields h) tuple r.bits
+      valued v (encoded_terms e ts) (tuple_fits ts d).counted (map (reads v) fields) (reads-row v fields h) tuple r.bits
       r.values
 
   -- the words of a block read as its result
   pub Means-block : (v : ℕ → Bool) (ts : List Tree) → Serves (encoding_of p) v ts → (fields : List (List ℕ)) →
       AreLong w (all_fields p) fields →
-      Means v (block (encoding_of p) fields) (ReadsResults v (terms_of (encoding_of p) ts) (map (reads v) fields))
+      Means v (block (encoding_of p) fields) (ReadsResults v (encoded_terms (encoding_of p) ts) (map (reads v) fields))
   Means-block v ts serves fields h =
       Means-weaker (serves.blocks fields (over_fields (length fields) h.many) h.bits)
       (read_as v ts serves.derived fields h)
@@ -138,18 +141,19 @@ module _ (p : Problem) (formed : IsFormed p) where
       (λ n tuple m r. record { many = r.many ∙ formed.start_per_field; each = r.each })
 
   -- from truth values that choose it, every block can be met
-  module _ (kept : ℕ → Bool) (ts : List Tree) (d : IsDerived (encoding_of p) ts) (keeps : Keeps (encoding_of p) kept ts)
+  module _ (kept : ℕ → Bool) (ts : List Tree) (d : IsDerivedTuple (encoding_of p) ts)
+      (keeps : KeepsTuple (encoding_of p) kept ts)
       (v : ℕ → Bool) (agree : AgreeOnSelectors (encoding_of p) v kept) (q : Place)
       (l : 1 + selectors_of (encoding_of p) ≤ q.next) where
     -- from truth values that choose the trees, those of a block's words can be met
     pub Reaches-block : (fields : List (List ℕ)) → AreWordsIn w (all_fields p) q.next fields →
         Reaches v (block (encoding_of p) fields) q
         (λ u r tuple. AreWordsIn w k r.next tuple
-        × ReadsResults u (terms_of (encoding_of p) ts) (map (reads v) fields) tuple)
+        × ReadsResults u (encoded_terms (encoding_of p) ts) (map (reads v) fields) tuple)
     Reaches-block fields h =
         Reaches-weaker (keeps.blocks v agree q l fields (over_fields (length fields) h.many) h.each)
         (λ u r tuple m same g. (
           record { many = g.0.many ∙ formed.start_per_field; each = g.0.each },
-          subst (λ row. ReadsResults u (terms_of e ts) row tuple) (map-same u v w q.next same fields h.each)
+          subst (λ row. ReadsResults u (encoded_terms e ts) row tuple) (map-same u v w q.next same fields h.each)
               (read_as u ts d fields (AreLong-words w (all_fields p) q.next fields h) tuple g.1),
         ))

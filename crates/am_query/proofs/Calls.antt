@@ -5,8 +5,9 @@ use Rattle.std.proofs.lemmas.List.{drop_all}
 use Rattle.am_lit.specs.Literal.{opposite_of}
 use Rattle.am_gate.specs.Circuit.{Grows, HasInputs, IsLiteral, Net, inputs_of}
 use Rattle.am_gate.specs.Build.{Step, answer, place_of, tell, Follows}
-use Rattle.am_gate.specs.Promises.{Gives}
-use Rattle.am_gate.proofs.Laws.{Follows-answer, Follows-bind, Gives-bind, Grows-same, Grows-trans, HasInputs-Follows}
+use Rattle.am_gate.specs.Promises.{GivesStep}
+use Rattle.am_gate.proofs.Laws.{Follows-answer, Follows-bind, GivesStep-bind, Grows-same, Grows-trans}
+use Rattle.am_gate.proofs.Laws.{HasInputs-Follows}
 use Rattle.am_bv.specs.declared.term.Term.{Term}
 use Rattle.am_bv.specs.Terms.{val}
 use Rattle.am_blast.specs.Words.{IsWord, constant}
@@ -24,30 +25,30 @@ use Rattle.am_query.specs.inside.Statements.{Any, States}
 use Rattle.am_query.proofs.Builds.{Builds}
 
 -- a term, and the test of its word
-pub Gives-test : {w j k l : ℕ} (t : Term) (words : List (List ℕ)) {value : List ℕ} {old mid new : Net} →
-    Gives (blasted w words t) j (IsWord w) old value mid → Gives (nonzero value) k IsLiteral mid l new →
-    Gives (test w t words) (j + k) IsLiteral old l new
+pub GivesStep-test : {w j k l : ℕ} (t : Term) (words : List (List ℕ)) {value : List ℕ} {old mid new : Net} →
+    GivesStep (blasted w words t) j (IsWord w) old value mid → GivesStep (nonzero value) k IsLiteral mid l new →
+    GivesStep (test w t words) (j + k) IsLiteral old l new
 unfolding test
-Gives-test t words one two = Gives-bind _ one two (omega arith)
+GivesStep-test t words one two = GivesStep-bind _ one two (omega arith)
 
 -- a clause
-Gives-tell : (c : List ℕ) {old new : Net} → Follows (tell c) old tt new → Grows 1 old new →
-    Gives (tell c) 1 Any old tt new
-Gives-tell c f g = record { follows = f; given = tt; grows = g }
+GivesStep-tell : (c : List ℕ) {old new : Net} → Follows (tell c) old tt new → Grows 1 old new →
+    GivesStep (tell c) 1 Any old tt new
+GivesStep-tell c f g = record { follows = f; given = tt; grows = g }
 
 -- a test that is forced
-pub Gives-forced : {m : Step ℕ} {k l : ℕ} {old mid new : Net} → Gives m k IsLiteral old l mid →
+pub GivesStep-forced : {m : Step ℕ} {k l : ℕ} {old mid new : Net} → GivesStep m k IsLiteral old l mid →
     Follows (tell (l ∷ [])) mid tt new → Grows 1 mid new →
     States (forced m) (k + 1) old tt new
 unfolding forced
-Gives-forced one f g = Gives-bind _ one (Gives-tell _ f g) (omega arith)
+GivesStep-forced one f g = GivesStep-bind _ one (GivesStep-tell _ f g) (omega arith)
 
 -- a test that is refused
-pub Gives-refused : {m : Step ℕ} {k l : ℕ} {old mid new : Net} → Gives m k IsLiteral old l mid →
+pub GivesStep-refused : {m : Step ℕ} {k l : ℕ} {old mid new : Net} → GivesStep m k IsLiteral old l mid →
     Follows (tell (opposite_of l ∷ [])) mid tt new → Grows 1 mid new →
     States (refused m) (k + 1) old tt new
 unfolding refused
-Gives-refused one f g = Gives-bind _ one (Gives-tell _ f g) (omega arith)
+GivesStep-refused one f g = GivesStep-bind _ one (GivesStep-tell _ f g) (omega arith)
 
 -- nothing is stated
 pub States-nothing : (k : ℕ) (n : Net) → States (answer tt) k n tt n
@@ -55,22 +56,24 @@ States-nothing k n =
     record { follows = Follows-answer; given = tt; grows = Grows-trans k (Grows-same n) (Grows-same n) (omega arith) }
 
 -- an example: a block at constants, and a statement of its result
-pub Gives-covered : (p : Problem) (e : Positive) {j k n : ℕ} {Q : ℕ → List (List ℕ) → Type 0} {tuple : List (List ℕ)}
+pub GivesStep-covered : (p : Problem) (e : Positive) {j k n : ℕ} {Q : ℕ → List (List ℕ) → Type 0}
+    {tuple : List (List ℕ)}
     {old mid new : Net} →
-    Gives (block (encoding_of p) (constants p e.inputs)) j Q old tuple mid →
+    GivesStep (block (encoding_of p) (constants p e.inputs)) j Q old tuple mid →
     States (forced (member_test p tuple (constant p.width (val p.width p.operation e.words)))) k mid tt new →
     j + k ≤ n → States (covered p e) n old tt new
 unfolding covered
-Gives-covered p e one two l = Gives-bind _ one two l
+GivesStep-covered p e one two l = GivesStep-bind _ one two l
 
 -- a negative example: a block at constants, and a statement of its result
-pub Gives-uncovered : (p : Problem) (e : Negative) {j k n : ℕ} {Q : ℕ → List (List ℕ) → Type 0} {tuple : List (List ℕ)}
+pub GivesStep-uncovered : (p : Problem) (e : Negative) {j k n : ℕ} {Q : ℕ → List (List ℕ) → Type 0}
+    {tuple : List (List ℕ)}
     {old mid new : Net} →
-    Gives (block (encoding_of p) (constants p e.inputs)) j Q old tuple mid →
+    GivesStep (block (encoding_of p) (constants p e.inputs)) j Q old tuple mid →
     States (refused (member_test p tuple (constant p.width e.word))) k mid tt new →
     j + k ≤ n → States (uncovered p e) n old tt new
 unfolding uncovered
-Gives-uncovered p e one two l = Gives-bind _ one two l
+GivesStep-uncovered p e one two l = GivesStep-bind _ one two l
 
 -- the template, and what is stated of it
 pub Follows-fit : (p : Problem) (pos : List Positive) (neg : List Negative) {old a b new : Net} →

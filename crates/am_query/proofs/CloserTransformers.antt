@@ -2,7 +2,7 @@
 use Rattle.std.proofs.Common.{ℕ, ◌+◌, ◌*◌, ◌^◌, ◌≤◌, List, ◌∙◌, ap, arith}
 use Rattle.am_gate.specs.Build.{Follows, place_of}
 use Rattle.am_gate.specs.Circuit.{HasInputs, HasRoom, Net}
-use Rattle.am_gate.specs.Promises.{Gives}
+use Rattle.am_gate.specs.Promises.{GivesStep}
 use Rattle.am_gate.proofs.Laws.{Follows-bind, HasRoom-grown}
 use Rattle.am_bv.specs.declared.term.Term.{Term}
 use Rattle.am_blast.specs.Words.{IsWord}
@@ -27,9 +27,10 @@ use Rattle.am_query.proofs.Tuples.{AreWordsIn-later}
 
 module _ (p : Problem) (is : IsProblem p) (terms : List Term) (t : IsTransformerOf p terms)
     (old one two : Net) (fields : List (List ℕ)) (word : List ℕ) (room : HasRoom (2 ^ 27) old)
-    (first : Gives (input_words p.width (all_fields p)) (all_fields p * p.width) (AreWordsIn p.width (all_fields p)) old
+    (first : GivesStep (input_words p.width (all_fields p)) (all_fields p * p.width) (AreWordsIn p.width (all_fields p))
+    old
     fields one)
-    (second : Gives (input_word p.width) p.width (IsWord p.width) one word two) where
+    (second : GivesStep (input_word p.width) p.width (IsWord p.width) one word two) where
   room_before : HasRoom (2 ^ 26 + 1) two
   room_before =
       let middle : HasRoom (2 ^ 26 + 9) one =
@@ -73,5 +74,5 @@ module _ (p : Problem) (is : IsProblem p) (terms : List Term) (t : IsTransformer
         second.given)
 
     -- there is room left after them
-    pub room_behind : HasRoom 1 new
-    room_behind = HasRoom-grown 1 third.grows room_before (omega (arith, comparing_small p is terms t))
+    pub room_left_after : HasRoom 1 new
+    room_left_after = HasRoom-grown 1 third.grows room_before (omega (arith, comparing_small p is terms t))

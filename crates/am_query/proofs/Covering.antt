@@ -12,9 +12,10 @@ use Rattle.am_domain.specs.Question.{results}
 use Rattle.am_domain.specs.Examples.{Covers, Excludes}
 use Rattle.am_tree.specs.declared.tree.Tree.{Tree}
 use Rattle.am_slot.specs.Encoding.{Encoding}
-use Rattle.am_slot.specs.Template.{IsDerived, selectors_of, terms_of}
-use Rattle.am_slot.specs.Theorems.{AgreeOnSelectors, Keeps, Serves}
-use Rattle.am_problem.specs.Examples.{IsNegative, IsPositive, IsRow, all_fields, inputs_of, negative_of, positive_of}
+use Rattle.am_slot.specs.Template.{IsDerivedTuple, encoded_terms, selectors_of}
+use Rattle.am_slot.specs.Theorems.{AgreeOnSelectors, KeepsTuple, Serves}
+use Rattle.am_problem.specs.Examples.{IsFieldRow, IsNegative, IsPositive, all_fields, inputs_of, negative_of}
+use Rattle.am_problem.specs.Examples.{positive_of}
 use Rattle.am_problem.specs.Kinds.{fields_of}
 use Rattle.am_problem.specs.Limits.{IsFormed}
 use Rattle.am_problem.specs.Problem.{Problem, question_of}
@@ -50,18 +51,18 @@ module _ (p : Problem) (formed : IsFormed p) where
   abbrev fields : List ℕ → List (List ℕ)
   fields row = constants p row
 
-  fields-words : (n : ℕ) → 0 < n → (row : List ℕ) → IsRow p row → AreWordsIn w (all_fields p) n (fields row)
+  fields-words : (n : ℕ) → 0 < n → (row : List ℕ) → IsFieldRow p row → AreWordsIn w (all_fields p) n (fields row)
   fields-words n pos row is = subst (λ c. AreWordsIn w c n (fields row)) is.counted (constants-words w n pos row)
 
-  fields-long : (row : List ℕ) → IsRow p row → AreLong w (all_fields p) (fields row)
+  fields-long : (row : List ℕ) → IsFieldRow p row → AreLong w (all_fields p) (fields row)
   fields-long row is =
       let one : 0 < 1 = omega arith in AreLong-words w (all_fields p) 1 (fields row) (fields-words 1 one row is)
 
-  fields-read : (v : ℕ → Bool) → IsTrue (v 0) → (row : List ℕ) → IsRow p row → map (reads v) (fields row) ≡ row
+  fields-read : (v : ℕ → Bool) → IsTrue (v 0) → (row : List ℕ) → IsFieldRow p row → map (reads v) (fields row) ≡ row
   fields-read v t row is = constants-read v w t row is.words
 
   -- the block at a row of constants reads as the result there
-  read-result : (v : ℕ → Bool) → IsTrue (v 0) → (terms : List Term) (row : List ℕ) → IsRow p row →
+  read-result : (v : ℕ → Bool) → IsTrue (v 0) → (terms : List Term) (row : List ℕ) → IsFieldRow p row →
       (tuple : List (List ℕ)) →
       ReadsResults p formed v terms (map (reads v) (fields row)) tuple → map (reads v) tuple ≡ result terms row
   read-result v t terms row is tuple r = r.values ∙ ap (result terms) (fields-read v t row is)
@@ -70,24 +71,25 @@ module _ (p : Problem) (formed : IsFormed p) where
 
   -- where a positive example is stated, the chosen transformer satisfies it
   pub Means-covered : (v : ℕ → Bool) (ts : List Tree) → Serves (encoding_of p) v ts → (x : Positive) → IsPositive p x →
-      Means v (covered p x) (λ u. Covers (question_of p) (terms_of (encoding_of p) ts) (positive_of p x))
+      Means v (covered p x) (λ u. Covers (question_of p) (encoded_terms (encoding_of p) ts) (positive_of p x))
   unfolding covered
   Means-covered v ts serves x is =
       let c = val w p.operation x.words in
       let below : c < 2 ^ w = operations_give_words p formed x.words is.words in
       Means-truth (λ t. Means-bind _ (Means-block p formed v ts serves (fields x.inputs) (fields-long x.inputs is.row))
       (λ tuple r. Means-weaker (Means-admitted p formed v tuple (constant w c) r.long (length-constant w c))
-      (λ u h. rw (read-result v t (terms_of e ts) x.inputs is.row tuple r, reads-constant v w c t below) at h)))
+      (λ u h. rw (read-result v t (encoded_terms e ts) x.inputs is.row tuple r, reads-constant v w c t below) at h)))
 
   -- where a negative example is stated, the chosen transformer satisfies it
   pub Means-uncovered : (v : ℕ → Bool) (ts : List Tree) → Serves (encoding_of p) v ts → (x : Negative) →
       IsNegative p x →
-      Means v (uncovered p x) (λ u. Excludes (question_of p) (terms_of (encoding_of p) ts) (negative_of p x))
+      Means v (uncovered p x) (λ u. Excludes (question_of p) (encoded_terms (encoding_of p) ts) (negative_of p x))
   unfolding uncovered
   Means-uncovered v ts serves x is =
       Means-truth (λ t. Means-bind _ (Means-block p formed v ts serves (fields x.inputs) (fields-long x.inputs is.row))
       (λ tuple r. Means-weaker (Means-excluded p formed v tuple (constant w x.word) r.long (length-constant w x.word))
-      (λ u h. rw (read-result v t (terms_of e ts) x.inputs is.row tuple r, reads-constant v w x.word t is.word) at h)))
+      (λ u h. rw (read-result v t (encoded_terms e ts) x.inputs is.row tuple r, reads-constant v w x.word t is.word) at
+      h)))
 
   -- ---- what they build
 
@@ -115,7 +117,8 @@ module _ (p : Problem) (formed : IsFormed p) where
 
   -- ---- which truth values they reach
 
-  module _ (kept : ℕ → Bool) (ts : List Tree) (d : IsDerived (encoding_of p) ts) (keeps : Keeps (encoding_of p) kept ts)
+  module _ (kept : ℕ → Bool) (ts : List Tree) (d : IsDerivedTuple (encoding_of p) ts)
+      (keeps : KeepsTuple (encoding_of p) kept ts)
       (v : ℕ → Bool) (t : IsTrue (v 0)) (agree : AgreeOnSelectors (encoding_of p) v kept) (q : Place)
       (l : 1 + selectors_of (encoding_of p) ≤ q.next) where
     pos : 0 < q.next
@@ -123,7 +126,7 @@ module _ (p : Problem) (formed : IsFormed p) where
 
     -- an example that a transformer covers can be stated once it is chosen
     pub Reaches-covered : (x : Positive) → IsPositive p x →
-        Covers (question_of p) (terms_of (encoding_of p) ts) (positive_of p x) →
+        Covers (question_of p) (encoded_terms (encoding_of p) ts) (positive_of p x) →
         Reaches v (covered p x) q (λ u r a. Unit {0})
     unfolding covered
     Reaches-covered x is h =
@@ -136,13 +139,13 @@ module _ (p : Problem) (formed : IsFormed p) where
         let first : 0 < r.next = omega (arith, pos, m) in
         Reaches-admitted p formed u r first start tuple (constant w c) g.0 (IsWord-constant w c r.next first)
         (rw (
-          g.1.values ∙ ap (result (terms_of e ts)) (fields-read v t x.inputs is.row),
+          g.1.values ∙ ap (result (encoded_terms e ts)) (fields-read v t x.inputs is.row),
           reads-constant u w c start below,
         ) h))
 
     -- an example that it excludes can be, too
     pub Reaches-uncovered : (x : Negative) → IsNegative p x →
-        Excludes (question_of p) (terms_of (encoding_of p) ts) (negative_of p x) →
+        Excludes (question_of p) (encoded_terms (encoding_of p) ts) (negative_of p x) →
         Reaches v (uncovered p x) q (λ u r a. Unit {0})
     unfolding uncovered
     Reaches-uncovered x is h =
@@ -153,6 +156,6 @@ module _ (p : Problem) (formed : IsFormed p) where
         let first : 0 < r.next = omega (arith, pos, m) in
         Reaches-excluded p formed u r first start tuple (constant w x.word) g.0 (IsWord-constant w x.word r.next first)
         (rw (
-          g.1.values ∙ ap (result (terms_of e ts)) (fields-read v t x.inputs is.row),
+          g.1.values ∙ ap (result (encoded_terms e ts)) (fields-read v t x.inputs is.row),
           reads-constant u w x.word start is.word,
         ) h))

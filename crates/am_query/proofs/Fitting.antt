@@ -13,8 +13,8 @@ use Rattle.am_bv.specs.declared.term.Term.{Term}
 use Rattle.am_domain.specs.Examples.{Covers, Excludes}
 use Rattle.am_tree.specs.declared.tree.Tree.{Tree}
 use Rattle.am_slot.specs.Encoding.{Encoding}
-use Rattle.am_slot.specs.Template.{decoded, selectors_of, template, terms_of}
-use Rattle.am_slot.specs.Theorems.{AgreeOnSelectors, Keeps, Serves}
+use Rattle.am_slot.specs.Template.{decoded, encoded_terms, selectors_of, template}
+use Rattle.am_slot.specs.Theorems.{AgreeOnSelectors, KeepsTuple, Serves}
 use Rattle.am_slot.proofs.Laws.{assignments_serve, derived_tuples_are_reached, templates_make_selectors}
 use Rattle.am_problem.specs.Examples.{IsNegative, IsPositive, negative_of, positive_of}
 use Rattle.am_problem.specs.Limits.{IsFormed}
@@ -23,9 +23,9 @@ use Rattle.am_problem.specs.declared.examples.Negative.{Negative}
 use Rattle.am_problem.specs.declared.examples.Positive.{Positive}
 use Rattle.am_query.specs.declared.query.Query.TheVariants.{Fit}
 use Rattle.am_query.specs.inside.Weights.{example_weight}
-use Rattle.am_query.specs.Formulas.{circuit_of, covered, encoding_of, fit, uncovered}
+use Rattle.am_query.specs.Formulas.{covered, encoding_of, fit, query_circuit, uncovered}
 use Rattle.am_query.specs.QueryLaws.{FitsAreChosen, FitsAreReached, UnsatisfiedFitHasNone}
-use Rattle.am_query.specs.Transformers.{IsTransformerOf, Suits}
+use Rattle.am_query.specs.Transformers.{IsTransformerOf, SuitsExamples}
 use Rattle.am_query.proofs.Builds.{Builds, Builds-bind, Builds-weaker, Reaches-weaker}
 use Rattle.am_query.proofs.Steps.{Builds-each, Means-each, Reaches-each}
 use Rattle.am_query.proofs.Blocks.{encodes, tuple_derivable}
@@ -47,8 +47,9 @@ abbrev pub all_true : ℕ → Bool
 all_true x = true
 
 -- what is known of truth values that agree with others on the selectors
-pub keeps-same : (e : Encoding) (kept v : ℕ → Bool) (ts : List Tree) → AgreeOnSelectors e v kept → Keeps e kept ts →
-    Keeps e v ts
+pub keeps-same : (e : Encoding) (kept v : ℕ → Bool) (ts : List Tree) → AgreeOnSelectors e v kept → KeepsTuple e kept ts
+    →
+    KeepsTuple e v ts
 keeps-same e kept v ts agree keeps = record {
   decodes = λ u same. keeps.decodes u (λ x l. same x l ∙ agree x l);
   blocks = λ u same. keeps.blocks u (λ x l. same x l ∙ agree x l);
@@ -70,20 +71,20 @@ module _ (p : Problem) (formed : IsFormed p) (pos : List Positive) (neg : List N
 
   -- the terms that truth values choose
   abbrev pub chosen : (ℕ → Bool) → List Term
-  chosen v = terms_of (encoding_of p) (decoded (encoding_of p) v)
+  chosen v = encoded_terms (encoding_of p) (decoded (encoding_of p) v)
 
   abbrev IsCovered : List Tree → Positive → Type 0
-  IsCovered ts x = Covers (question_of p) (terms_of e ts) (positive_of p x)
+  IsCovered ts x = Covers (question_of p) (encoded_terms e ts) (positive_of p x)
 
   abbrev IsExcluded : List Tree → Negative → Type 0
-  IsExcluded ts x = Excludes (question_of p) (terms_of e ts) (negative_of p x)
+  IsExcluded ts x = Excludes (question_of p) (encoded_terms e ts) (negative_of p x)
 
   -- ---- from truth values to a transformer
 
   -- truth values choose a tuple that serves all blocks, and satisfies the examples
   pub record IsChosen (v : ℕ → Bool) : Type 0 where
     pub serves : Serves (encoding_of p) v (decoded (encoding_of p) v)
-    pub suits : Suits p (terms_of (encoding_of p) (decoded (encoding_of p) v)) pos neg
+    pub suits : SuitsExamples p (encoded_terms (encoding_of p) (decoded (encoding_of p) v)) pos neg
 
   -- truth values that satisfy the fit choose a transformer that satisfies the examples
   pub Means-fit : (v : ℕ → Bool) → Means v (fit p pos neg) (λ u. IsChosen v)
@@ -136,22 +137,23 @@ module _ (p : Problem) (formed : IsFormed p) (pos : List Positive) (neg : List N
   -- ---- from a transformer to truth values
 
   -- from a transformer that satisfies the examples, truth values that satisfy the fit are reached
-  pub Reaches-fit : (terms : List Term) (is : IsTransformerOf p terms) → Suits p terms pos neg →
+  pub Reaches-fit : (terms : List Term) (is : IsTransformerOf p terms) → SuitsExamples p terms pos neg →
       (v : ℕ → Bool) → IsTrue (v 0) → (q : Place) → q.next ≡ 1 →
       Reaches v (fit p pos neg) q
-      (λ u r a. (1 + selectors_of (encoding_of p) ≤ r.next) × Keeps (encoding_of p) u is.trees)
+      (λ u r a. (1 + selectors_of (encoding_of p) ≤ r.next) × KeepsTuple (encoding_of p) u is.trees)
   unfolding fit
   Reaches-fit terms is suits v t q first =
-      let suited : Suits p (terms_of e is.trees) pos neg = subst (λ ts. Suits p ts pos neg) is.give suits in
+      let suited : SuitsExamples p (encoded_terms e is.trees) pos neg = subst (λ ts. SuitsExamples p ts pos neg) is.give
+      suits in
       Reaches-bind _ (derived_tuples_are_reached e (encodes p formed) is.trees is.derive v t q first)
       (λ u a r l same known.
       let start : IsTrue (u 0) = same 0 (omega (arith, first)) ∙ t in
       let n = 1 + selectors_of e in
       let there : n ≤ r.next = omega (arith, known.0) in
       let covers = All-both (IsPositive p) (IsCovered is.trees) pos positives
-      (All-unmap (Covers (question_of p) (terms_of e is.trees)) (positive_of p) pos suited.covers) in
+      (All-unmap (Covers (question_of p) (encoded_terms e is.trees)) (positive_of p) pos suited.covers) in
       let excludes = All-both (IsNegative p) (IsExcluded is.trees) neg negatives
-      (All-unmap (Excludes (question_of p) (terms_of e is.trees)) (negative_of p) neg suited.excludes) in
+      (All-unmap (Excludes (question_of p) (encoded_terms e is.trees)) (negative_of p) neg suited.excludes) in
       Reaches-bind _
       (Reaches-each (covered p) (λ x. IsPositive p x × IsCovered is.trees x) n u
       (λ x h z agree s m. Reaches-covered p formed u is.trees is.derive known.1 z (agree 0 (omega arith) ∙ start) agree
@@ -172,22 +174,22 @@ module _ (p : Problem) (formed : IsFormed p) (pos : List Positive) (neg : List N
 
   module _ (folding : Bool) where
     -- what satisfies it chooses a transformer that satisfies the examples
-    pub fit_found : (v : ℕ → Bool) → Satisfies v (circuit_of folding p (Fit pos neg)).clauses → IsChosen v
+    pub fit_found : (v : ℕ → Bool) → Satisfies v (query_circuit folding p (Fit pos neg)).clauses → IsChosen v
     fit_found v h = means_satisfied folding (Means-fit v) h
 
     -- each transformer that satisfies the examples is chosen by truth values that satisfy it
-    fit_reached : (terms : List Term) → IsTransformerOf p terms → Suits p terms pos neg →
-        (v : ℕ → Bool) × Satisfies v (circuit_of folding p (Fit pos neg)).clauses × (chosen v ≡ terms)
+    fit_reached : (terms : List Term) → IsTransformerOf p terms → SuitsExamples p terms pos neg →
+        (v : ℕ → Bool) × Satisfies v (query_circuit folding p (Fit pos neg)).clauses × (chosen v ≡ terms)
     fit_reached terms is suits =
         let first = place_of (start folding) in
         let r = Reaches-fit terms is suits all_true refl first refl in
         let met = (Satisfies-built r.values folding (fit p pos neg first).events).1
         (r.below 0 (omega arith), r.meets) in
-        (r.values, met, ap (terms_of e) (r.given.1.decodes r.values (λ x l. refl)) ∙ sym is.give)
+        (r.values, met, ap (encoded_terms e) (r.given.1.decodes r.values (λ x l. refl)) ∙ sym is.give)
 
     -- where a transformer satisfies the examples, it can be satisfied
-    pub fit_satisfiable : (terms : List Term) → IsTransformerOf p terms → Suits p terms pos neg →
-        IsSatisfiable (circuit_of folding p (Fit pos neg)).clauses
+    pub fit_satisfiable : (terms : List Term) → IsTransformerOf p terms → SuitsExamples p terms pos neg →
+        IsSatisfiable (query_circuit folding p (Fit pos neg)).clauses
     fit_satisfiable terms is suits = let found = fit_reached terms is suits in (found.0, found.1)
 
 -- ---- the laws

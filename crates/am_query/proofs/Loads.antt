@@ -13,7 +13,7 @@ use Rattle.am_problem.specs.Problem.{Problem}
 use Rattle.am_problem.specs.declared.examples.Negative.{Negative}
 use Rattle.am_problem.specs.declared.examples.Positive.{Positive}
 use Rattle.am_problem.proofs.Laws.{derivable_terms_fit}
-use Rattle.am_query.specs.Formulas.{circuit_of, encoding_of, precise, sound}
+use Rattle.am_query.specs.Formulas.{encoding_of, precise, query_circuit, sound}
 use Rattle.am_query.specs.Queries.{FormulasKeepTheLoad, IsQueryOf, input_count}
 use Rattle.am_query.specs.Transformers.{IsTransformerOf}
 use Rattle.am_query.specs.declared.query.Query.{Query}
@@ -110,7 +110,7 @@ module _ (p : Problem) (is : IsProblem p) where
       omega (arith, there, b.most, l)
 
   vars-bounded : (folding : Bool) (q : Query) → IsQueryOf p q →
-      (circuit_of folding p q).vars ≤ 1 + input_count p q + load_of p
+      (query_circuit folding p q).vars ≤ 1 + input_count p q + load_of p
   vars-bounded folding (Fit pos neg) h =
       let each : (length pos + length neg) * example_weight p ≤ (length pos + length neg) * (example_weight p + 1) =
       omega arith in

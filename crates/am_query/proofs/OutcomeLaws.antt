@@ -19,7 +19,7 @@ use Rattle.am_query.specs.Acceptance.{IsExcluded, IsGiven, Test, acceptance_by, 
 use Rattle.am_query.specs.Acceptance.{refuted, second_log, terms_inside}
 use Rattle.am_query.specs.AcceptanceLaws.{AbsentIsAccepted, AcceptedIsRight, AcceptedWithHintsIsRight, BestIsAccepted}
 use Rattle.am_query.specs.AcceptanceLaws.{FitsInto, IsRight}
-use Rattle.am_query.specs.Formulas.{circuit_of}
+use Rattle.am_query.specs.Formulas.{query_circuit}
 use Rattle.am_query.specs.Transformers.{IsTransformerOf}
 use Rattle.am_query.specs.Turns.{after_trace}
 use Rattle.am_query.specs.declared.fault.Fault.{Fault}
@@ -120,9 +120,9 @@ right_by folding p formed (Best t trace sound_log best_log) fits first second on
     let negative = all_passed (IsExcluded p t) NegativeFalse 0 s.negatives passes.1.1.0 in
     let valid = All-weaker (IsExcluded p t) (IsValidHere p) (λ e h. h.0) s.negatives negative in
     let excludes = All-weaker (IsExcluded p t) (ExcludesHere p t) (λ e h. h.1) s.negatives negative in
-    let precise = circuit_of folding p (Precise t s.positives s.negatives) in
+    let precise = query_circuit folding p (Precise t s.positives s.negatives) in
     none_betters q t (positives_of p s.positives) (negatives_of p s.negatives) derives
-    (mean.sound t derives (one (circuit_of folding p (Sound t)) passes.1.1.1.0))
+    (mean.sound t derives (one (query_circuit folding p (Sound t)) passes.1.1.1.0))
     (All-map (IsTrueExample q) (positive_of p) s.positives positive)
     (All-map (IsValidExample q) (negative_of p) s.negatives valid)
     (All-map (Excludes q t) (negative_of p) s.negatives excludes)
@@ -134,7 +134,7 @@ right_by folding p formed (Absent trace log) fits first second one two passes =
     let positive = all_passed (IsTrueHere p) PositiveFalse 0 s.positives passes.0 in
     none_is_sound q (positives_of p s.positives) (All-map (IsTrueExample q) (positive_of p) s.positives positive)
     (mean.none s.positives [] fits.positives (All-nil (IsNegative p))
-    (one (circuit_of folding p (Fit s.positives [])) passes.1))
+    (one (query_circuit folding p (Fit s.positives [])) passes.1))
 right_by folding p formed (Turns trace) fits first second one two passes = passes
 right_by folding p formed (Conflicts trace asked log) fits first second one two passes = passes
 

@@ -8,7 +8,7 @@ use Rattle.am_gate.proofs.Laws.{Follows-bind}
 use Rattle.am_chain.specs.declared.chain.Chain.{Chain}
 use Rattle.am_chain.specs.Replay.{RefutationsAreSound}
 use Rattle.am_blast.specs.Words.{reads}
-use Rattle.am_slot.specs.Template.{IsDerived, decoded}
+use Rattle.am_slot.specs.Template.{IsDerivedTuple, decoded}
 use Rattle.am_domain.specs.Examples.{NoneIsCloser}
 use Rattle.am_problem.specs.Examples.{all_fields, negatives_of, positives_of}
 use Rattle.am_problem.specs.Limits.{IsFormed}
@@ -17,7 +17,7 @@ use Rattle.am_problem.specs.declared.examples.Negative.{Negative}
 use Rattle.am_problem.specs.declared.examples.Positive.{Positive}
 use Rattle.am_problem.proofs.Laws.{derivable_terms_fit}
 use Rattle.am_query.specs.Answers.{IsRefuted}
-use Rattle.am_query.specs.Formulas.{circuit_of, encoding_of, fit, precise}
+use Rattle.am_query.specs.Formulas.{encoding_of, fit, precise, query_circuit}
 use Rattle.am_query.specs.Queries.{AreCompared}
 use Rattle.am_query.specs.QueryLaws.{IsComparison}
 use Rattle.am_query.specs.Witnesses.{IsCloser, chosen_negative, chosen_terms, words_from}
@@ -45,17 +45,17 @@ module _ (p : Problem) (formed : IsFormed p) (terms : List Term) (pos : List Pos
   }
 
   -- the trees that truth values choose derive
-  pub chosen_derive : (v : ℕ → Bool) → Satisfies v (circuit_of true p (Precise terms pos neg)).clauses →
-      IsDerived (encoding_of p) (decoded (encoding_of p) v)
+  pub chosen_derive : (v : ℕ → Bool) → Satisfies v (query_circuit true p (Precise terms pos neg)).clauses →
+      IsDerivedTuple (encoding_of p) (decoded (encoding_of p) v)
   chosen_derive v h = (fit_chosen p terms pos neg comparison true v h).serves.derived
 
   -- the transformer and the example that truth values choose which satisfy the formula
-  pub read_closer : (v : ℕ → Bool) → Satisfies v (circuit_of true p (Precise terms pos neg)).clauses →
-      (vars : ℕ) (i : PreciseInputs) → ArePreciseInputs p (circuit_of true p (Fit pos neg)).vars vars i →
+  pub read_closer : (v : ℕ → Bool) → Satisfies v (query_circuit true p (Precise terms pos neg)).clauses →
+      (vars : ℕ) (i : PreciseInputs) → ArePreciseInputs p (query_circuit true p (Fit pos neg)).vars vars i →
       (e : Negative) → e.inputs ≡ map (reads v) i.fields → e.word ≡ reads v i.word →
       IsCloser p terms pos neg (chosen_terms p v) e
   read_closer v h vars i stand e inputs given =
-      let x = (circuit_of true p (Fit pos neg)).vars in
+      let x = (query_circuit true p (Fit pos neg)).vars in
       let same : e ≡ chosen_negative p x v =
       ap (λ row. let r : Negative = record { inputs = row; word = e.word } in r)
       (inputs ∙ ap (map (reads v)) stand.fields)
@@ -71,4 +71,4 @@ module _ (p : Problem) (formed : IsFormed p) (terms : List Term) (pos : List Pos
       NoneIsCloser (question_of p) terms (positives_of p pos) (negatives_of p neg)
   refuted_has_none_closer law limit log r =
       unsatisfied_precision_has_none_closer true p terms pos neg comparison
-      (law (circuit_of true p (Precise terms pos neg)).clauses log r.refutes)
+      (law (query_circuit true p (Precise terms pos neg)).clauses log r.refutes)

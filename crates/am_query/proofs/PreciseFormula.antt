@@ -13,8 +13,8 @@ use Rattle.am_blast.proofs.Laws.{IsWord-later}
 use Rattle.am_domain.specs.Examples.{Excludes, IsValidExample, Negative as Example}
 use Rattle.am_domain.specs.Question.{IsMember, results}
 use Rattle.am_slot.specs.Encoding.{Encoding}
-use Rattle.am_slot.specs.Template.{decoded, selectors_of, terms_of}
-use Rattle.am_slot.specs.Theorems.{Keeps}
+use Rattle.am_slot.specs.Template.{decoded, encoded_terms, selectors_of}
+use Rattle.am_slot.specs.Theorems.{KeepsTuple}
 use Rattle.am_problem.specs.ExampleLaws.{stored_negative}
 use Rattle.am_problem.specs.Examples.{IsNegative, all_fields, inputs_of, negative_of}
 use Rattle.am_problem.specs.Kinds.{fields_of}
@@ -22,11 +22,12 @@ use Rattle.am_problem.specs.Problem.{Problem, question_of}
 use Rattle.am_problem.specs.declared.examples.Negative.{Negative}
 use Rattle.am_problem.specs.declared.examples.Positive.{Positive}
 use Rattle.am_problem.proofs.Laws.{results_are_tuples, valid_examples_are_stored}
-use Rattle.am_query.specs.Formulas.{circuit_of, encoding_of, fit, forced, input_word, input_words, member_test, precise}
+use Rattle.am_query.specs.Formulas.{encoding_of, fit, forced, input_word, input_words, member_test, precise}
+use Rattle.am_query.specs.Formulas.{query_circuit}
 use Rattle.am_query.specs.Formulas.{refused}
 use Rattle.am_query.specs.QueryLaws.{CloserOnesAreChosen, CloserOnesAreReached, IsComparison}
 use Rattle.am_query.specs.QueryLaws.{UnsatisfiedPrecisionHasNoneCloser}
-use Rattle.am_query.specs.Transformers.{IsTransformerOf, Suits}
+use Rattle.am_query.specs.Transformers.{IsTransformerOf, SuitsExamples}
 use Rattle.am_query.specs.Witnesses.{IsCloser, chosen_negative, chosen_terms, word_from, words_from}
 use Rattle.am_query.specs.declared.query.Query.TheVariants.{Fit, Precise}
 use Rattle.am_query.proofs.Deciding.{member_if_not_outside}
@@ -106,7 +107,7 @@ module _ (p : Problem) (terms : List Term) (pos : List Positive) (neg : List Neg
 
     -- how many variables the circuit of the fit has
     abbrev behind : ℕ
-    behind = (circuit_of folding p (Fit pos neg)).vars
+    behind = (query_circuit folding p (Fit pos neg)).vars
 
     second-stands : second.next ≡ behind
     second-stands = sym (ap (λ (q : Place). q.next) (place_of-built (start folding) (fit p pos neg first).events))
@@ -121,7 +122,7 @@ module _ (p : Problem) (terms : List Term) (pos : List Positive) (neg : List Neg
     word-stands = (puts-input_word w third).value ∙ ap (word_from w) third-stands
 
     -- truth values that satisfy the formula choose as those of the fit do
-    pub fit_chosen : (v : ℕ → Bool) → Satisfies v (circuit_of folding p (Precise terms pos neg)).clauses →
+    pub fit_chosen : (v : ℕ → Bool) → Satisfies v (query_circuit folding p (Precise terms pos neg)).clauses →
         IsChosen p are.formed pos neg are.positives_stored are.negatives_stored v
     unfolding precise comparing ◌>>=◌
     fit_chosen v h =
@@ -133,7 +134,7 @@ module _ (p : Problem) (terms : List Term) (pos : List Positive) (neg : List Neg
         (Means-fit p are.formed pos neg are.positives_stored are.negatives_stored v).holds first both.0 one.0
 
     -- and show a closer transformer
-    closer_chosen : (v : ℕ → Bool) → Satisfies v (circuit_of folding p (Precise terms pos neg)).clauses →
+    closer_chosen : (v : ℕ → Bool) → Satisfies v (query_circuit folding p (Precise terms pos neg)).clauses →
         IsCloser p terms pos neg (chosen_terms p v) (chosen_negative p behind v)
     unfolding precise comparing ◌>>=◌
     closer_chosen v h =
@@ -153,7 +154,7 @@ module _ (p : Problem) (terms : List Term) (pos : List Positive) (neg : List Neg
 
   -- ---- which truth values are reached
 
-  module _ (other : List Term) (derivable : IsTransformerOf p other) (suits : Suits p other pos neg)
+  module _ (other : List Term) (derivable : IsTransformerOf p other) (suits : SuitsExamples p other pos neg)
       (x : Negative) (stored : IsNegative p x) (valid_one : IsValidExample (question_of p) (negative_of p x))
       (excludes : Excludes (question_of p) other (negative_of p x))
       (member : IsMember (question_of p) (results (question_of p) terms (inputs_of p x.inputs)) x.word) where
@@ -161,7 +162,7 @@ module _ (p : Problem) (terms : List Term) (pos : List Positive) (neg : List Neg
     record Reads (fields : List (List ℕ)) (word : List ℕ) (v : ℕ → Bool) (n : ℕ) : Type 0 where
       truth : IsTrue (v 0)
       selectors : 1 + selectors_of e ≤ n
-      keeps : Keeps e v derivable.trees
+      keeps : KeepsTuple e v derivable.trees
       inside : AreWordsIn w (all_fields p) n fields
       inside_word : IsWord w n word
       row : map (reads v) fields ≡ x.inputs
@@ -217,7 +218,7 @@ module _ (p : Problem) (terms : List Term) (pos : List Positive) (neg : List Neg
           Reaches-bind _ (admitted v3 q3 r3 result own.0 (rw r2.row at own.1))
           (λ v4 a q4 l4 same4 done. let r4 = later fields word v4 v3 q3.next q4.next r3 l4 same4 in
           let at_first =
-          subst (λ row. ReadsResults p are.formed v2 (terms_of e derivable.trees) row closer) r1.row close.1 in
+          subst (λ row. ReadsResults p are.formed v2 (encoded_terms e derivable.trees) row closer) r1.row close.1 in
           let values : map (reads v4) closer ≡ results (question_of p) other (inputs_of p x.inputs) =
           map-same v4 v2 w q2.next (λ y b. same4 y (omega (arith, b, l3)) ∙ same3 y b) closer close.0.each
           ∙ at_first.values ∙ ap (λ ts. results (question_of p) ts (inputs_of p x.inputs)) (sym derivable.give) in
@@ -260,12 +261,12 @@ module _ (p : Problem) (terms : List Term) (pos : List Positive) (neg : List Neg
         ∙ ap (λ k. k + all_fields p * w) here in
         let word_stands : word ≡ word_from w (behind folding + all_fields p * w) =
         two.1 ∙ (puts-input_word w q1).value ∙ ap (word_from w) there in (
-          ap (terms_of e) (after.keeps.decodes v (λ y b. refl)) ∙ sym derivable.give,
+          ap (encoded_terms e) (after.keeps.decodes v (λ y b. refl)) ∙ sym derivable.give,
           rw (← fields_stand, ← word_stands, after.row, after.given) refl,
         )))))
 
     closer_reached : (folding : Bool) →
-        (v : ℕ → Bool) × Satisfies v (circuit_of folding p (Precise terms pos neg)).clauses
+        (v : ℕ → Bool) × Satisfies v (query_circuit folding p (Precise terms pos neg)).clauses
         × (chosen_terms p v ≡ other) × (chosen_negative p (behind folding) v ≡ x)
     closer_reached folding =
         let r = reached folding in

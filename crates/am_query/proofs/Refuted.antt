@@ -14,7 +14,7 @@ use Rattle.am_problem.specs.Problem.{Problem, question_of}
 use Rattle.am_problem.specs.declared.examples.Negative.{Negative}
 use Rattle.am_problem.specs.declared.examples.Positive.{Positive}
 use Rattle.am_problem.proofs.Laws.{derivable_terms_fit}
-use Rattle.am_query.specs.Formulas.{circuit_of}
+use Rattle.am_query.specs.Formulas.{query_circuit}
 use Rattle.am_query.specs.Transformers.{IsTransformerOf}
 use Rattle.am_query.specs.declared.query.Query.{Query}
 use Rattle.am_query.specs.declared.query.Query.TheVariants.{Fit, Precise, Sound}
@@ -24,7 +24,7 @@ use Rattle.am_query.proofs.SoundFormula.{unsatisfied_soundness_is_sound}
 
 -- the formula of a query isn't satisfiable
 abbrev pub IsUnsatisfied : Bool → Problem → Query → Type 0
-IsUnsatisfied folding p q = ¬ IsSatisfiable (circuit_of folding p q).clauses
+IsUnsatisfied folding p q = ¬ IsSatisfiable (query_circuit folding p q).clauses
 
 -- what unsatisfied formulas of a problem mean
 pub record RefutationsMean (folding : Bool) (p : Problem) : Type 0 where

@@ -12,7 +12,7 @@ use Rattle.am_problem.specs.Problem.{Problem, question_of}
 use Rattle.am_problem.specs.declared.examples.Positive.{Positive}
 use Rattle.am_problem.proofs.Laws.{derivable_terms_fit}
 use Rattle.am_query.specs.Answers.{IsRefuted}
-use Rattle.am_query.specs.Formulas.{circuit_of}
+use Rattle.am_query.specs.Formulas.{query_circuit}
 use Rattle.am_query.specs.Transformers.{IsTransformerOf, IsUncovered}
 use Rattle.am_query.specs.Witnesses.{chosen_positive, words_from}
 use Rattle.am_query.specs.inside.Chosen.{AreSoundInputs}
@@ -22,7 +22,7 @@ use Rattle.am_query.proofs.SoundFormula.{failed_examples_are_chosen, unsatisfied
 
 module _ (p : Problem) (formed : IsFormed p) (terms : List Term) (t : IsTransformerOf p terms) where
   -- the example that the words of inputs read, of truth values that satisfy the formula
-  pub read_example : (v : ℕ → Bool) → Satisfies v (circuit_of true p (Sound terms)).clauses →
+  pub read_example : (v : ℕ → Bool) → Satisfies v (query_circuit true p (Sound terms)).clauses →
       (vars : ℕ) (i : SoundInputs) → AreSoundInputs p vars i →
       (e : Positive) → e.inputs ≡ map (reads v) i.fields → e.words ≡ map (reads v) i.words → IsUncovered p terms e
   read_example v h vars i are e inputs given =
@@ -41,4 +41,4 @@ module _ (p : Problem) (formed : IsFormed p) (terms : List Term) (t : IsTransfor
       IsSound (question_of p) terms
   refuted_is_sound law limit log r =
       unsatisfied_soundness_is_sound true p formed terms (derivable_terms_fit p formed terms t)
-      (law (circuit_of true p (Sound terms)).clauses log r.refutes)
+      (law (query_circuit true p (Sound terms)).clauses log r.refutes)

@@ -24,7 +24,7 @@ use Rattle.am_problem.specs.Problem.{Problem, question_of}
 use Rattle.am_problem.specs.declared.examples.Positive.{Positive}
 use Rattle.am_problem.proofs.Laws.{operations_give_words, results_are_tuples, true_examples_are_stored}
 use Rattle.am_query.specs.Transformers.{IsUncovered}
-use Rattle.am_query.specs.Formulas.{circuit_of, input_words, member_test, refused, sound}
+use Rattle.am_query.specs.Formulas.{input_words, member_test, query_circuit, refused, sound}
 use Rattle.am_query.specs.QueryLaws.{FailedExamplesAreChosen, FailedExamplesAreReached, UnsatisfiedSoundnessIsSound}
 use Rattle.am_query.specs.Witnesses.{chosen_positive, words_from}
 use Rattle.am_query.specs.declared.query.Query.TheVariants.{Sound}
@@ -103,7 +103,7 @@ module _ (p : Problem) (formed : IsFormed p) (terms : List Term) (is : IsTransfo
         ∙ ap (words_from w p.inputs) (puts-input_words w (all_fields p) first).next
 
     -- the words that truth values satisfy show a failed example
-    example_chosen : (v : ℕ → Bool) → Satisfies v (circuit_of folding p (Sound terms)).clauses →
+    example_chosen : (v : ℕ → Bool) → Satisfies v (query_circuit folding p (Sound terms)).clauses →
         IsUncovered p terms (chosen_positive p v)
     unfolding sound failing ◌>>=◌
     example_chosen v h =
@@ -217,7 +217,7 @@ module _ (p : Problem) (formed : IsFormed p) (terms : List Term) (is : IsTransfo
         (ap (λ (x : Place). x.next) one.2 ∙ (puts-input_words w (all_fields p) (first folding)).next) in
         rw (← fields_stand, ← words_stand, after.row, after.given) refl)))
 
-    example_reached : (v : ℕ → Bool) × Satisfies v (circuit_of folding p (Sound terms)).clauses
+    example_reached : (v : ℕ → Bool) × Satisfies v (query_circuit folding p (Sound terms)).clauses
         × (chosen_positive p v ≡ e)
     example_reached = (
       reached.values,

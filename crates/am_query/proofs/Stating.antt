@@ -3,8 +3,8 @@ use Rattle.std.proofs.Common.{ℕ, ◌+◌, ◌*◌, ◌<◌, ◌≤◌, List, l
 use Rattle.std.specs.Prelude.{IsTrue}
 use Rattle.am_gate.specs.Circuit.{Net}
 use Rattle.am_gate.specs.Build.{Place}
-use Rattle.am_gate.specs.Promises.{Gives}
-use Rattle.am_gate.proofs.Laws.{Gives-bind}
+use Rattle.am_gate.specs.Promises.{GivesStep}
+use Rattle.am_gate.proofs.Laws.{GivesStep-bind}
 use Rattle.am_blast.specs.Circuits.{blasted}
 use Rattle.am_bv.specs.Terms.{fits, weight}
 use Rattle.am_bv.specs.declared.term.Term.{Term}
@@ -109,8 +109,8 @@ module _ (p : Problem) (terms : List Term) (fields : List (List ℕ)) where
       States (valid p fields) (p.inputs * (valid_weight p + 1)) n0 tt n1 →
       States (members p fields words) (p.inputs * (member_weight p + 1)) n1 tt n2 →
       States (assumed p words p.assume) (assumption_weight p.width p.assume + 1) n2 tt n3 →
-      Gives (blasted p.width words p.operation) (weight p.width p.operation) (IsWord p.width) n3 value n4 →
-      Gives (outputs p terms fields) (sum_by (weight p.width) terms) Q n4 result n5 →
+      GivesStep (blasted p.width words p.operation) (weight p.width p.operation) (IsWord p.width) n3 value n4 →
+      GivesStep (outputs p terms fields) (sum_by (weight p.width) terms) Q n4 result n5 →
       States (refused (member_test p result value)) (member_weight p + 1) n5 tt n6 →
       States (failing p terms fields words) (failing_weight p terms) n0 tt n6
   unfolding failing
@@ -119,19 +119,19 @@ module _ (p : Problem) (terms : List Term) (fields : List (List ℕ)) where
       let d = weight p.width p.operation + e in
       let c = (assumption_weight p.width p.assume + 1) + d in
       let b = p.inputs * (member_weight p + 1) + c in
-      Gives-bind {k = b} _ one
-      (Gives-bind {k = c} {n = b} _ two
-      (Gives-bind {k = d} {n = c} _ three
-      (Gives-bind {k = e} {n = d} _ four
-      (Gives-bind {k = member_weight p + 1} {n = e} _ five six (omega arith)) (omega arith)) (omega arith))
+      GivesStep-bind {k = b} _ one
+      (GivesStep-bind {k = c} {n = b} _ two
+      (GivesStep-bind {k = d} {n = c} _ three
+      (GivesStep-bind {k = e} {n = d} _ four
+      (GivesStep-bind {k = member_weight p + 1} {n = e} _ five six (omega arith)) (omega arith)) (omega arith))
       (omega arith)) (omega arith)
 
   -- and for precision
   pub Gives-comparing : {n0 n1 n2 n3 n4 n5 : Net} {closer result : List (List ℕ)} {P Q : ℕ → List (List ℕ) → Type 0}
       (word : List ℕ) →
       States (valid p fields) (p.inputs * (valid_weight p + 1)) n0 tt n1 →
-      Gives (block (encoding_of p) fields) (weight_of_block (encoding_of p)) P n1 closer n2 →
-      Gives (outputs p terms fields) (sum_by (weight p.width) terms) Q n2 result n3 →
+      GivesStep (block (encoding_of p) fields) (weight_of_block (encoding_of p)) P n1 closer n2 →
+      GivesStep (outputs p terms fields) (sum_by (weight p.width) terms) Q n2 result n3 →
       States (forced (member_test p result word)) (member_weight p + 1) n3 tt n4 →
       States (refused (member_test p closer word)) (member_weight p + 1) n4 tt n5 →
       States (comparing p terms fields word) (comparing_weight p terms) n0 tt n5
@@ -140,8 +140,8 @@ module _ (p : Problem) (terms : List Term) (fields : List (List ℕ)) where
       let d = (member_weight p + 1) + (member_weight p + 1) in
       let c = sum_by (weight p.width) terms + d in
       let b = weight_of_block (encoding_of p) + c in
-      Gives-bind {k = b} _ one
-      (Gives-bind {k = c} {n = b} _ two
-      (Gives-bind {k = d} {n = c} _ three
-      (Gives-bind {k = member_weight p + 1} {n = d} _ four five (omega arith)) (omega arith)) (omega arith))
+      GivesStep-bind {k = b} _ one
+      (GivesStep-bind {k = c} {n = b} _ two
+      (GivesStep-bind {k = d} {n = c} _ three
+      (GivesStep-bind {k = member_weight p + 1} {n = d} _ four five (omega arith)) (omega arith)) (omega arith))
       (omega arith)

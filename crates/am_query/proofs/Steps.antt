@@ -16,7 +16,7 @@ use Rattle.am_bv.specs.Terms.{val, fits}
 use Rattle.am_bv.specs.declared.term.Term.{Term}
 use Rattle.am_blast.specs.Words.{reads, IsWord}
 use Rattle.am_blast.proofs.Laws.{Means-blasted, Makes-blasted, Means-nonzero, Makes-nonzero}
-use Rattle.am_problem.specs.Loads.{test_weight}
+use Rattle.am_problem.specs.Loads.{tested_term_weight}
 use Rattle.am_query.specs.Formulas.{each, forced, refused, test}
 use Rattle.am_query.specs.inside.Statements.{Any}
 use Rattle.am_query.proofs.Builds.{Builds, Builds-answer, Builds-bind, Builds-gates, Builds-more, Builds-tell}
@@ -135,7 +135,7 @@ module _ (w : ℕ) (one : 1 ≤ w) (words : List (List ℕ)) (t : Term) (fit : I
 
   -- it makes the gates of the term and of the test of a word
   pub Makes-test : (p : Place) → 0 < p.next → All (IsWord w p.next) words →
-      MakesGates (test w t words) (test_weight w t) IsLiteral p
+      MakesGates (test w t words) (tested_term_weight w t) IsLiteral p
   unfolding test
   Makes-test p pos h =
       Makes-bind _ w (Makes-blasted w one words t fit p pos h) refl

@@ -2,7 +2,7 @@
 use Rattle.std.proofs.Common.{◌≡◌, ℕ, ◌+◌, ◌*◌, ◌^◌, List, ◌∙◌, ap, arith}
 use Rattle.am_gate.specs.Build.{Follows, place_of}
 use Rattle.am_gate.specs.Circuit.{HasInputs, HasRoom, Net, start}
-use Rattle.am_gate.specs.Promises.{Gives}
+use Rattle.am_gate.specs.Promises.{GivesStep}
 use Rattle.am_gate.proofs.Laws.{Follows-bind, HasRoom-grown}
 use Rattle.am_bv.specs.declared.term.Term.{Term}
 use Rattle.am_problem.specs.Examples.{all_fields}
@@ -23,9 +23,10 @@ use Rattle.am_query.proofs.Tuples.{AreWordsIn-later}
 
 module _ (p : Problem) (is : IsProblem p) (terms : List Term) (t : IsTransformerOf p terms)
     (old one two : Net) (fields words : List (List ℕ)) (fresh : old ≡ start old.folding)
-    (first : Gives (input_words p.width (all_fields p)) (all_fields p * p.width) (AreWordsIn p.width (all_fields p)) old
+    (first : GivesStep (input_words p.width (all_fields p)) (all_fields p * p.width) (AreWordsIn p.width (all_fields p))
+    old
     fields one)
-    (second : Gives (input_words p.width p.inputs) (p.inputs * p.width) (AreWordsIn p.width p.inputs) one
+    (second : GivesStep (input_words p.width p.inputs) (p.inputs * p.width) (AreWordsIn p.width p.inputs) one
     words two) where
   begins : old.vars ≡ 1
   begins = ap (λ (n : Net). n.vars) fresh
@@ -79,5 +80,5 @@ module _ (p : Problem) (is : IsProblem p) (terms : List Term) (t : IsTransformer
         (omega (arith, many_variables)) fields_inside second.given)
 
     -- there is room left after them
-    pub room_behind : HasRoom 1 new
-    room_behind = HasRoom-grown 1 third.grows room_before (omega (arith, failing_small p is terms t))
+    pub room_left_after : HasRoom 1 new
+    room_left_after = HasRoom-grown 1 third.grows room_before (omega (arith, failing_small p is terms t))

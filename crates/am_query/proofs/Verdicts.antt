@@ -8,12 +8,12 @@ use Rattle.std.proofs.lemmas.List.Elements.{All-head, All-tail}
 use Rattle.am_chain.specs.Replay.{EndsEmpty, LogFault, replay}
 use Rattle.am_chain.specs.declared.chain.Chain.{Chain}
 use Rattle.am_gate.specs.Circuit.{Net}
-use Rattle.am_hint.specs.HintReplay.{HintsFault, clauses_of, hints_fault}
+use Rattle.am_hint.specs.HintReplay.{HintsFault, hint_clauses, hints_fault}
 use Rattle.am_hint.specs.declared.hint.Hint.{Hint}
 use Rattle.am_problem.specs.Problem.{Problem}
 use Rattle.am_query.specs.Acceptance.{IsHintsFault, IsLogFault, Test, acceptance_by, ◌before◌, condition, each_is}
 use Rattle.am_query.specs.Acceptance.{first_log, hints_refute, refuted, second_log}
-use Rattle.am_query.specs.AcceptanceLaws.{AreDecided, HasOneVerdict, HintsAreTestedInTurn, IsDecided}
+use Rattle.am_query.specs.AcceptanceLaws.{AreDecided, HasOneVerdict, HintsAreTestedInTurn, IsDecidedTest}
 use Rattle.am_query.specs.AcceptanceLaws.{LogsAreTestedInTurn, VerdictsAreUnique, VerdictsExist}
 use Rattle.am_query.specs.Turns.{after_trace}
 use Rattle.am_query.specs.declared.fault.Fault.{Fault}
@@ -100,10 +100,10 @@ verdicts_are_unique folding p o = (
 
 -- ---- one verdict at least
 
-decided_condition : (P : Type 0) (fault : Fault) → P ⊎ (¬ P) → IsDecided (condition P fault)
+decided_condition : (P : Type 0) (fault : Fault) → P ⊎ (¬ P) → IsDecidedTest (condition P fault)
 decided_condition P fault h = elim h [ inl is ↦ inl is | inr is_not ↦ inr (fault, (is_not, refl)) ]
 
-decided_before : (a b : Test) → IsDecided a → IsDecided b → IsDecided (a before b)
+decided_before : (a b : Test) → IsDecidedTest a → IsDecidedTest b → IsDecidedTest (a before b)
 decided_before a b x y = elim x [
   | inr first ↦ inr (first.0, inl first.1)
   | inl passes ↦ elim y [ inl both ↦ inl (passes, both) | inr later ↦ inr (later.0, inr (passes, later.1)) ]
@@ -111,7 +111,7 @@ decided_before a b x y = elim x [
 
 decided_each : {A : Type 0} (Good : A → Type 0) (fault : ℕ → Fault) (i : ℕ) (items : List A) →
     ((x : A) → Good x ⊎ (¬ Good x)) →
-    IsDecided (each_is Good fault i items)
+    IsDecidedTest (each_is Good fault i items)
 decided_each Good fault i [] decide = inl tt
 decided_each Good fault i (x ∷ xs) decide =
     decided_before (condition (Good x) (fault i)) (each_is Good fault (suc i) xs)
@@ -139,10 +139,10 @@ at_log : (j : ℕ) (clauses : List (List ℕ)) (log : List Chain) (r : Result (L
     replay clauses [] log ≡ r → IsLogFault j r f → (refuted j clauses log).Fails f
 at_log j clauses log r f e is = subst (λ (s : Result (List (List ℕ)) LogFault). IsLogFault j s f) (sym e) is
 
-decided_log : (j : ℕ) (clauses : List (List ℕ)) (log : List Chain) → IsDecided (refuted j clauses log)
+decided_log : (j : ℕ) (clauses : List (List ℕ)) (log : List Chain) → IsDecidedTest (refuted j clauses log)
 decided_log j clauses log = go (replay clauses [] log) refl
   where
-    go : (r : Result (List (List ℕ)) LogFault) → replay clauses [] log ≡ r → IsDecided (refuted j clauses log)
+    go : (r : Result (List (List ℕ)) LogFault) → replay clauses [] log ≡ r → IsDecidedTest (refuted j clauses log)
     go (Ok derived) e = elim (decided_end derived) [
       | inl ends ↦ inl (derived, e, ends)
       | inr full ↦ inr (NotEmpty j, at_log j clauses log (Ok derived) (NotEmpty j) e (full, refl))
@@ -155,11 +155,12 @@ at_hints : (j vars : ℕ) (clauses : List (List ℕ)) (hints : List Hint) (r : O
 at_hints j vars clauses hints r f e is = subst (λ (s : Option HintsFault). IsHintsFault j hints s f) (sym e) is
 
 decided_hints : (j vars : ℕ) (clauses : List (List ℕ)) (hints : List Hint) →
-    IsDecided (hints_refute j vars clauses hints)
+    IsDecidedTest (hints_refute j vars clauses hints)
 decided_hints j vars clauses hints = go (hints_fault vars clauses 0 hints) refl
   where
-    go : (r : Option HintsFault) → hints_fault vars clauses 0 hints ≡ r → IsDecided (hints_refute j vars clauses hints)
-    go None e = elim (decided_end (clauses_of hints)) [
+    go : (r : Option HintsFault) → hints_fault vars clauses 0 hints ≡ r → IsDecidedTest
+        (hints_refute j vars clauses hints)
+    go None e = elim (decided_end (hint_clauses hints)) [
       | inl ends ↦ inl (e, ends)
       | inr full ↦ inr (NotEmpty j, at_hints j vars clauses hints None (NotEmpty j) e (full, refl))
     ]
@@ -178,8 +179,8 @@ same_or_not (suc m) (suc n) = elim (same_or_not m n) [
 
 -- an outcome is decided by tests that are
 decided_by : (folding : Bool) (p : Problem) → AreDecided p → (o : Outcome) (first second : Net → Test) →
-    ((c : Net) → IsDecided (first c)) → ((c : Net) → IsDecided (second c)) →
-    IsDecided (acceptance_by folding p o first second)
+    ((c : Net) → IsDecidedTest (first c)) → ((c : Net) → IsDecidedTest (second c)) →
+    IsDecidedTest (acceptance_by folding p o first second)
 decided_by folding p decide (Best t trace sound_log best_log) first second one two =
     decided_before _ _
     (decided_before _ _ (decided_each _ TermOutside 0 (zip p.starts t) (λ pair. decide.given pair.0 pair.1))

@@ -5,7 +5,7 @@ use Rattle.am_chain.specs.declared.chain.Chain.{Chain}
 use Rattle.am_chain.specs.Replay.{EndsEmpty, LogFault, Refutes, replay}
 use Rattle.am_domain.specs.Examples.{Excludes, IsTrueExample, IsValidExample}
 use Rattle.am_gate.specs.Circuit.{Net}
-use Rattle.am_hint.specs.HintReplay.{HintsFault, HintsRefute, clauses_of, hints_fault}
+use Rattle.am_hint.specs.HintReplay.{HintsFault, HintsRefute, hint_clauses, hints_fault}
 use Rattle.am_hint.specs.declared.hint.Hint.{Hint}
 use Rattle.am_problem.specs.Examples.{negative_of, positive_of}
 use Rattle.am_problem.specs.Problem.{Problem, question_of}
@@ -13,7 +13,7 @@ use Rattle.am_problem.specs.declared.examples.Negative.{Negative}
 use Rattle.am_problem.specs.declared.examples.Positive.{Positive}
 use Rattle.am_tree.specs.Trees.{IsTreeOf}
 use Rattle.am_tree.specs.declared.tree.Tree.{Tree}
-use Rattle.am_query.specs.Formulas.{circuit_of}
+use Rattle.am_query.specs.Formulas.{query_circuit}
 use Rattle.am_query.specs.Turns.{after_trace}
 use Rattle.am_query.specs.declared.fault.Fault.{Fault}
 use Rattle.am_query.specs.declared.fault.Fault.TheVariants.{BadChain, BadHint, NegativeFalse, NotEmpty, PositiveFalse}
@@ -53,7 +53,7 @@ refuted j clauses log = record { Passes = Refutes clauses log; Fails = IsLogFaul
 -- the fault of hints: of the first that doesn't pass, else that the last one's clause isn't there or not empty
 abbrev pub IsHintsFault : ℕ → List Hint → Option HintsFault → Fault → Type 0
 IsHintsFault j hints (Some bad) f = f ≡ BadHint j bad.hint bad.fault.place bad.fault.why
-IsHintsFault j hints None f = (¬ EndsEmpty (clauses_of hints)) × (f ≡ NotEmpty j)
+IsHintsFault j hints None f = (¬ EndsEmpty (hint_clauses hints)) × (f ≡ NotEmpty j)
 
 -- the hints of refutation number j refute the clauses, which are over so many variables
 abbrev pub hints_refute : ℕ → ℕ → List (List ℕ) → List Hint → Test
@@ -93,12 +93,12 @@ acceptance_by folding p (Best t trace sound_log best_log) first second =
     terms_inside p t
     before positives_true p s.positives
     before negatives_true p t s.negatives
-    before first (circuit_of folding p (Sound t))
-    before second (circuit_of folding p (Precise t s.positives s.negatives))
+    before first (query_circuit folding p (Sound t))
+    before second (query_circuit folding p (Precise t s.positives s.negatives))
 acceptance_by folding p (Absent trace log) first second =
     let s = after_trace trace in
     positives_true p s.positives
-    before first (circuit_of folding p (Fit s.positives []))
+    before first (query_circuit folding p (Fit s.positives []))
 acceptance_by folding p (Turns trace) first second = condition ⊥ Unfinished
 acceptance_by folding p (Conflicts trace asked log) first second = condition ⊥ Unfinished
 

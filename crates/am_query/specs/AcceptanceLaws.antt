@@ -2,10 +2,10 @@
 use Rattle.std.specs.Prelude.{ℕ, ◌≡◌, ◌⊎◌, Bool, List, [], Err, Some}
 use Rattle.am_bv.specs.declared.term.Term.{Term}
 use Rattle.am_chain.specs.declared.chain.Chain.{Chain}
-use Rattle.am_chain.specs.Replay.{Derives, EndsEmpty, LogFault, Refutes, replay}
+use Rattle.am_chain.specs.Replay.{DerivesClauses, EndsEmpty, LogFault, Refutes, replay}
 use Rattle.am_domain.specs.Question.{IsAbsent, IsBest}
 use Rattle.am_domain.specs.Examples.{IsTrueExample}
-use Rattle.am_hint.specs.HintReplay.{AllPass, HintsFault, clauses_of, hints_fault}
+use Rattle.am_hint.specs.HintReplay.{AllPass, HintsFault, hint_clauses, hints_fault}
 use Rattle.am_hint.specs.declared.hint.Hint.{Hint}
 use Rattle.am_problem.specs.Examples.{positive_of}
 use Rattle.am_problem.specs.Limits.{IsFormed}
@@ -14,7 +14,7 @@ use Rattle.am_problem.specs.declared.examples.Negative.{Negative}
 use Rattle.am_problem.specs.declared.examples.Positive.{Positive}
 use Rattle.am_query.specs.Acceptance.{IsAccepted, IsAcceptedWith, IsExcluded, IsGiven, Test, acceptance}
 use Rattle.am_query.specs.Acceptance.{hinted_acceptance, hints_refute, refuted}
-use Rattle.am_query.specs.Formulas.{circuit_of}
+use Rattle.am_query.specs.Formulas.{query_circuit}
 use Rattle.am_query.specs.Turns.{AreRows, IsCandidate, IsTrace, after_trace}
 use Rattle.am_query.specs.declared.fault.Fault.{Fault}
 use Rattle.am_query.specs.declared.fault.Fault.TheVariants.{BadChain, BadHint, NotEmpty}
@@ -43,28 +43,28 @@ pub record AreDecided (p : Problem) : Type 0 where
   pub excluded : (t : List Term) (e : Negative) → IsExcluded p t e ⊎ (¬ IsExcluded p t e)
 
 -- a test passes, or it fails with a fault
-abbrev pub IsDecided : Test → Type 0
-IsDecided t = t.Passes ⊎ ((f : Fault) × t.Fails f)
+abbrev pub IsDecidedTest : Test → Type 0
+IsDecidedTest t = t.Passes ⊎ ((f : Fault) × t.Fails f)
 
 -- where the conditions are decided, an outcome is accepted or has a fault, by its logs or by hints
 abbrev pub VerdictsExist : Type 0
 VerdictsExist = (folding : Bool) (p : Problem) → AreDecided p → (o : Outcome) →
-    IsDecided (acceptance folding p o)
-    × ((first second : List Hint) → IsDecided (hinted_acceptance folding p o first second))
+    IsDecidedTest (acceptance folding p o)
+    × ((first second : List Hint) → IsDecidedTest (hinted_acceptance folding p o first second))
 
 -- a refutation fails with its first fault, and, where it has none, where it doesn't end with the empty clause
 abbrev pub LogsAreTestedInTurn : Type 0
 LogsAreTestedInTurn = (j : ℕ) (clauses derived : List (List ℕ)) (log : List Chain) →
     ((bad : LogFault) → replay clauses [] log ≡ Err bad →
     (refuted j clauses log).Fails (BadChain j bad.chain bad.fault.step bad.fault.why))
-    × (Derives clauses log derived → ¬ EndsEmpty derived → (refuted j clauses log).Fails (NotEmpty j))
+    × (DerivesClauses clauses log derived → ¬ EndsEmpty derived → (refuted j clauses log).Fails (NotEmpty j))
 
 -- so do hints
 abbrev pub HintsAreTestedInTurn : Type 0
 HintsAreTestedInTurn = (j vars : ℕ) (clauses : List (List ℕ)) (hints : List Hint) →
     ((bad : HintsFault) → hints_fault vars clauses 0 hints ≡ Some bad →
     (hints_refute j vars clauses hints).Fails (BadHint j bad.hint bad.fault.place bad.fault.why))
-    × (AllPass vars clauses hints → ¬ EndsEmpty (clauses_of hints) →
+    × (AllPass vars clauses hints → ¬ EndsEmpty (hint_clauses hints) →
     (hints_refute j vars clauses hints).Fails (NotEmpty j))
 
 -- ---- what is accepted is right
@@ -100,12 +100,12 @@ abbrev pub BestIsAccepted : Type 0
 BestIsAccepted = (folding : Bool) (p : Problem) (t : List Term) (trace : List Turn) (sound_log best_log : List Chain) →
     let s = after_trace trace in
     IsTrace p trace → IsCandidate p s t →
-    Refutes (circuit_of folding p (Sound t)).clauses sound_log →
-    Refutes (circuit_of folding p (Precise t s.positives s.negatives)).clauses best_log →
+    Refutes (query_circuit folding p (Sound t)).clauses sound_log →
+    Refutes (query_circuit folding p (Precise t s.positives s.negatives)).clauses best_log →
     IsAccepted folding p (Best t trace sound_log best_log)
 
 -- with a valid trace: a refutation of the positive examples after it
 abbrev pub AbsentIsAccepted : Type 0
 AbsentIsAccepted = (folding : Bool) (p : Problem) (trace : List Turn) (log : List Chain) →
-    IsTrace p trace → Refutes (circuit_of folding p (Fit (after_trace trace).positives [])).clauses log →
+    IsTrace p trace → Refutes (query_circuit folding p (Fit (after_trace trace).positives [])).clauses log →
     IsAccepted folding p (Absent trace log)

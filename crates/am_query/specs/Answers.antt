@@ -11,8 +11,8 @@ use Rattle.am_problem.specs.Problem.{Problem, question_of}
 use Rattle.am_problem.specs.declared.examples.Negative.{Negative}
 use Rattle.am_problem.specs.declared.examples.Positive.{Positive}
 use Rattle.am_solve.specs.Answers.{ChainsAreShort, IsProgress}
-use Rattle.am_query.specs.Formulas.{circuit_of}
-use Rattle.am_query.specs.Transformers.{IsTransformerOf, IsUncovered, Suits}
+use Rattle.am_query.specs.Formulas.{query_circuit}
+use Rattle.am_query.specs.Transformers.{IsTransformerOf, IsUncovered, SuitsExamples}
 use Rattle.am_query.specs.Witnesses.{IsCloser}
 use Rattle.am_query.specs.declared.answers.Closer.{Closer}
 use Rattle.am_query.specs.declared.answers.QueryAnswer.{QueryAnswer}
@@ -21,30 +21,30 @@ use Rattle.am_query.specs.declared.query.Query.{Query}
 use Rattle.am_query.specs.declared.query.Query.TheVariants.{Fit, Precise, Sound}
 
 -- the clauses of the query's formula are normal, numbers of 31 bits name them, and it has fewer than 2^30 variables
-pub record IsNumbered (p : Problem) (q : Query) : Type 0 where
-  pub normal : IsFormula (circuit_of true p q).clauses (circuit_of true p q).vars
-  pub few_clauses : length (circuit_of true p q).clauses < 2 ^ 31
-  pub few_vars : (circuit_of true p q).vars < 2 ^ 30
+pub record IsNumberedQuery (p : Problem) (q : Query) : Type 0 where
+  pub normal : IsFormula (query_circuit true p q).clauses (query_circuit true p q).vars
+  pub few_clauses : length (query_circuit true p q).clauses < 2 ^ 31
+  pub few_vars : (query_circuit true p q).vars < 2 ^ 30
 
 -- a log refutes the query's formula, with at most so many chains
 pub record IsRefuted (p : Problem) (q : Query) (limit : ℕ) (log : List Chain) : Type 0 where
-  pub refutes : Refutes (circuit_of true p q).clauses log
+  pub refutes : Refutes (query_circuit true p q).clauses log
   pub few : length log ≤ limit
-  pub short : ChainsAreShort (circuit_of true p q).vars log
-  pub numbered : IsNumbered p q
+  pub short : ChainsAreShort (query_circuit true p q).vars log
+  pub numbered : IsNumberedQuery p q
 
 -- a log has exactly so many valid chains over the query's formula, whose clauses are new
 pub record IsSpentOn (p : Problem) (q : Query) (limit : ℕ) (log : List Chain) : Type 0 where
   pub many : length log ≡ limit
-  pub progress : IsProgress (circuit_of true p q).clauses (circuit_of true p q).vars log
-  pub short : ChainsAreShort (circuit_of true p q).vars log
-  pub numbered : IsNumbered p q
+  pub progress : IsProgress (query_circuit true p q).clauses (query_circuit true p q).vars log
+  pub short : ChainsAreShort (query_circuit true p q).vars log
+  pub numbered : IsNumberedQuery p q
 
 -- the limit was reached
-abbrev pub IsSpent : {W : Type 0} → QueryAnswer W → Type 0
-IsSpent (Found w) = ⊥
-IsSpent (Refuted log) = ⊥
-IsSpent (Spent log) = Unit {0}
+abbrev pub IsSpentQuery : {W : Type 0} → QueryAnswer W → Type 0
+IsSpentQuery (Found w) = ⊥
+IsSpentQuery (Refuted log) = ⊥
+IsSpentQuery (Spent log) = Unit {0}
 
 -- what was sought is found, and this is one; or there is none; or the limit was reached
 abbrev pub IsAnswerTo : {W : Type 0} → Problem → Query → ℕ → (W → Type 0) → Type 0 → QueryAnswer W → Type 0
@@ -55,7 +55,7 @@ IsAnswerTo p q limit IsOne ThereIsNone (Spent log) = IsSpentOn p q limit log
 -- a transformer that satisfies the examples
 abbrev pub IsFitAnswer : Problem → List Positive → List Negative → ℕ → QueryAnswer (List Term) → Type 0
 IsFitAnswer p positives negatives limit = IsAnswerTo p (Fit positives negatives) limit
-    (λ t. IsTransformerOf p t × Suits p t positives negatives)
+    (λ t. IsTransformerOf p t × SuitsExamples p t positives negatives)
     (NoneSatisfies (question_of p) (positives_of p positives) (negatives_of p negatives))
 
 -- a true example that the transformer doesn't cover, or it is sound

@@ -146,5 +146,5 @@ stated p (Precise t positives negatives) = precise p t positives negatives
 -- ---- their formulas
 
 -- the circuit of a query: one that folds, or one that doesn't
-abbrev pub circuit_of : Bool → Problem → Query → Net
-circuit_of folding p q = built (start folding) (stated p q (place_of (start folding))).events
+abbrev pub query_circuit : Bool → Problem → Query → Net
+query_circuit folding p q = built (start folding) (stated p q (place_of (start folding))).events

@@ -8,7 +8,7 @@ use Rattle.am_problem.specs.Loads.{load_of}
 use Rattle.am_problem.specs.Problem.{Problem}
 use Rattle.am_problem.specs.declared.examples.Negative.{Negative}
 use Rattle.am_problem.specs.declared.examples.Positive.{Positive}
-use Rattle.am_query.specs.Formulas.{circuit_of, encoding_of}
+use Rattle.am_query.specs.Formulas.{encoding_of, query_circuit}
 use Rattle.am_query.specs.Transformers.{IsTransformerOf}
 use Rattle.am_query.specs.declared.query.Query.{Query}
 use Rattle.am_query.specs.declared.query.Query.TheVariants.{Fit, Precise, Sound}
@@ -43,4 +43,4 @@ input_count p (Precise t positives negatives) = selectors_of (encoding_of p) + (
 -- beside the true variable and its inputs, the circuit of a query has at most as many gates as the load of the problem
 abbrev pub FormulasKeepTheLoad : Type 0
 FormulasKeepTheLoad = (folding : Bool) (p : Problem) → IsProblem p → (q : Query) → IsQueryOf p q →
-    (circuit_of folding p q).vars ≤ 1 + input_count p q + load_of p
+    (query_circuit folding p q).vars ≤ 1 + input_count p q + load_of p

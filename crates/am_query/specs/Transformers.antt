@@ -1,7 +1,7 @@
 -- Transformers of a problem, the examples that they satisfy, and those that they fail.
 use Rattle.std.specs.Prelude.{List}
 use Rattle.am_bv.specs.declared.term.Term.{Term}
-use Rattle.am_domain.specs.Examples.{Covers, Excludes, IsTrueExample, IsValidExample, Satisfies}
+use Rattle.am_domain.specs.Examples.{Covers, Excludes, IsTrueExample, IsValidExample, SatisfiesExamples}
 use Rattle.am_problem.specs.Examples.{IsNegative, IsPositive, negative_of, negatives_of, positive_of, positives_of}
 use Rattle.am_problem.specs.Problem.{AreDerivable, Problem, question_of}
 use Rattle.am_problem.specs.declared.examples.Negative.{Negative}
@@ -12,13 +12,14 @@ abbrev pub IsTransformerOf : Problem → List Term → Type 0
 IsTransformerOf p terms = AreDerivable p.rules p.starts p.depth terms
 
 -- the terms satisfy the examples
-abbrev pub Suits : Problem → List Term → List Positive → List Negative → Type 0
-Suits p terms positives negatives =
-    Satisfies (question_of p) terms (positives_of p positives) (negatives_of p negatives)
+abbrev pub SuitsExamples : Problem → List Term → List Positive → List Negative → Type 0
+SuitsExamples p terms positives negatives =
+    SatisfiesExamples (question_of p) terms (positives_of p positives) (negatives_of p negatives)
 
 -- some transformer of the problem satisfies the examples
 abbrev pub SomeSuits : Problem → List Positive → List Negative → Type 0
-SomeSuits p positives negatives = (terms : List Term) × IsTransformerOf p terms × Suits p terms positives negatives
+SomeSuits p positives negatives = (terms : List Term) × IsTransformerOf p terms × SuitsExamples p terms positives
+    negatives
 
 -- a true example that a transformer doesn't cover
 pub record IsUncovered (p : Problem) (t : List Term) (e : Positive) : Type 0 where

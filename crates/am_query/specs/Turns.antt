@@ -9,7 +9,7 @@ use Rattle.am_problem.specs.Examples.{IsNegative, IsPositive}
 use Rattle.am_problem.specs.Problem.{Problem, question_of}
 use Rattle.am_problem.specs.declared.examples.Negative.{Negative}
 use Rattle.am_problem.specs.declared.examples.Positive.{Positive}
-use Rattle.am_query.specs.Transformers.{IsAdmitted, IsTransformerOf, IsUncovered, SomeSuits, Suits}
+use Rattle.am_query.specs.Transformers.{IsAdmitted, IsTransformerOf, IsUncovered, SomeSuits, SuitsExamples}
 use Rattle.am_query.specs.declared.state.State.{State}
 use Rattle.am_query.specs.declared.turn.Turn.{Turn}
 use Rattle.am_query.specs.declared.turn.Turn.TheVariants.{Negative as NegativeTurn, Positive as PositiveTurn}
@@ -51,7 +51,7 @@ pub record AreRows (p : Problem) (s : State) : Type 0 where
 -- a transformer of the problem that satisfies the examples so far
 pub record IsCandidate (p : Problem) (s : State) (t : List Term) : Type 0 where
   pub derivable : IsTransformerOf p t
-  pub suits : Suits p t s.positives s.negatives
+  pub suits : SuitsExamples p t s.positives s.negatives
 
 -- A positive turn: a candidate fails a true positive example, and these negative ones are kept beside it. A negative
 -- turn: a sound candidate fails a negative example, which some transformer satisfies beside the examples so far.

@@ -4,13 +4,13 @@ use Rattle.am_bv.specs.declared.term.Term.{Term}
 use Rattle.am_lit.specs.Literal.{literal_of}
 use Rattle.am_blast.specs.Words.{reads}
 use Rattle.am_domain.specs.Examples.{Excludes}
-use Rattle.am_slot.specs.Template.{decoded, terms_of}
+use Rattle.am_slot.specs.Template.{decoded, encoded_terms}
 use Rattle.am_problem.specs.Examples.{all_fields, negative_of}
 use Rattle.am_problem.specs.Problem.{Problem, question_of}
 use Rattle.am_problem.specs.declared.examples.Negative.{Negative}
 use Rattle.am_problem.specs.declared.examples.Positive.{Positive}
 use Rattle.am_query.specs.Formulas.{encoding_of}
-use Rattle.am_query.specs.Transformers.{IsAdmitted, IsTransformerOf, Suits}
+use Rattle.am_query.specs.Transformers.{IsAdmitted, IsTransformerOf, SuitsExamples}
 
 -- ---- words of inputs
 
@@ -37,7 +37,7 @@ chosen_positive p v = record {
 
 -- the transformer that the selectors choose
 abbrev pub chosen_terms : Problem → (ℕ → Bool) → List Term
-chosen_terms p v = terms_of (encoding_of p) (decoded (encoding_of p) v)
+chosen_terms p v = encoded_terms (encoding_of p) (decoded (encoding_of p) v)
 
 -- after the fit, from variable x on, its inputs are the fields of all inputs, and then a word
 abbrev pub chosen_negative : Problem → ℕ → (ℕ → Bool) → Negative
@@ -50,6 +50,6 @@ chosen_negative p x v = record {
 pub record IsCloser (p : Problem) (terms : List Term) (positives : List Positive) (negatives : List Negative)
     (other : List Term) (e : Negative) : Type 0 where
   pub derivable : IsTransformerOf p other
-  pub suits : Suits p other positives negatives
+  pub suits : SuitsExamples p other positives negatives
   pub excludes : Excludes (question_of p) other (negative_of p e)
   pub admitted : IsAdmitted p terms e

@@ -2,9 +2,9 @@
 
 ghost use Rattle.std.specs.Prelude.{ℕ, List, ◌≡◌, ◌+◌, ◌*◌, ◌≤◌, All, IfOk, length};
 ghost use Rattle.am_gate.specs.Circuit.{HasInputs, HasRoom};
-ghost use Rattle.am_gate.specs.Promises.{Gives};
+ghost use Rattle.am_gate.specs.Promises.{GivesStep};
 ghost use Rattle.am_slot.specs.Template.{block, selectors_of, weight_of_block};
-ghost use Rattle.am_problem.specs.Examples.{IsNegative, IsPositive, IsRow};
+ghost use Rattle.am_problem.specs.Examples.{IsFieldRow, IsNegative, IsPositive};
 ghost use Rattle.am_problem.specs.Kinds.{fields_of};
 ghost use Rattle.am_query.specs.Formulas.{constants, covered, each, encoding_of, uncovered};
 ghost use Rattle.am_query.specs.inside.Statements.{States};
@@ -29,11 +29,12 @@ impl Statements<'_> {
         row: &Inputs,
     ) -> Result<Words, AllocError>
         requires template { template.now ≡ encoding_of self.now }
-        requires row { IsRow self.now row.now }
+        requires row { IsFieldRow self.now row.now }
         requires selectors { 1 + selectors_of (encoding_of self.now) ≤ circuit.old.vars }
         requires room { HasRoom (weight_of_block (encoding_of self.now)) circuit.old }
         ensures { IfOk result (λ r.
-            Gives (block (encoding_of self.now) (constants self.now row.now)) (weight_of_block (encoding_of self.now))
+            GivesStep (block (encoding_of self.now) (constants self.now row.now))
+            (weight_of_block (encoding_of self.now))
             (AreWordsIn self.now.width (fields_of self.now.kind)) circuit.old r circuit.new) }
     {
         self.problem.keeps_limits();

@@ -5,7 +5,7 @@ ghost use Rattle.std.specs.List.{range_with_len};
 ghost use Rattle.am_gate.specs.Circuit.{HasInputs, HasRoom, start};
 ghost use Rattle.am_gate.specs.Build.{Follows};
 ghost use Rattle.am_slot.specs.Template.{selectors_of};
-ghost use Rattle.am_query.specs.Answers.{IsFitAnswer, IsSpent};
+ghost use Rattle.am_query.specs.Answers.{IsFitAnswer, IsSpentQuery};
 ghost use Rattle.am_query.specs.Formulas.{encoding_of, fit};
 ghost use Rattle.am_query.specs.Queries.{AreFitted, input_count};
 ghost use Rattle.am_query.specs.declared.query.Query.TheVariants.{Fit};
@@ -35,7 +35,7 @@ pub fn fit(
     requires least { 1 ≤ limit }
     requires most { limit ≤ 2 ^ 30 }
     ensures answer { IfOk result (IsFitAnswer p.now pos.now neg.now limit) }
-    ensures enough { IfOk result (λ a. 3 ^ input_count p.now (Fit pos.now neg.now) ≤ limit → ¬ IsSpent a) }
+    ensures enough { IfOk result (λ a. 3 ^ input_count p.now (Fit pos.now neg.now) ≤ limit → ¬ IsSpentQuery a) }
 {
     p.keeps_limits();
     refutations_are_sound();

@@ -2,7 +2,7 @@
 
 ghost use Rattle.std.specs.Prelude.{◌≡◌, ◌+◌, ◌^◌, ◌<◌, ◌≤◌, IfOk, length, true, false};
 ghost use Rattle.am_problem.specs.Loads.{load_of};
-ghost use Rattle.am_query.specs.Formulas.{circuit_of};
+ghost use Rattle.am_query.specs.Formulas.{query_circuit};
 ghost use Rattle.am_query.specs.Queries.{IsQueryOf, input_count};
 ghost use Rattle.am_query.specs.inside.Stated.{IsStated};
 
@@ -21,8 +21,8 @@ use std::alloc::{AllocError, Global};
 /// clauses.
 pub fn formula_of(alloc: Global, p: &Problem, q: &Query) -> Result<Formula, AllocError>
     requires { IsQueryOf p.now q.now }
-    ensures clauses { IfOk result (λ f. f.clauses ≡ (circuit_of true p.now q.now).clauses) }
-    ensures vars { IfOk result (λ f. f.vars ≡ (circuit_of true p.now q.now).vars) }
+    ensures clauses { IfOk result (λ f. f.clauses ≡ (query_circuit true p.now q.now).clauses) }
+    ensures vars { IfOk result (λ f. f.vars ≡ (query_circuit true p.now q.now).vars) }
     ensures few { IfOk result (λ f. length f.clauses < 2 ^ 31) }
     ensures few_vars { IfOk result (λ f. f.vars < 2 ^ 30) }
     ensures gates { IfOk result (λ f. f.vars ≤ 1 + input_count p.now q.now + load_of p.now) }
@@ -38,8 +38,8 @@ pub fn formula_of(alloc: Global, p: &Problem, q: &Query) -> Result<Formula, Allo
 /// clauses.
 pub fn formula_one_of(alloc: Global, p: &Problem, q: &Query) -> Result<Formula, AllocError>
     requires { IsQueryOf p.now q.now }
-    ensures clauses { IfOk result (λ f. f.clauses ≡ (circuit_of false p.now q.now).clauses) }
-    ensures vars { IfOk result (λ f. f.vars ≡ (circuit_of false p.now q.now).vars) }
+    ensures clauses { IfOk result (λ f. f.clauses ≡ (query_circuit false p.now q.now).clauses) }
+    ensures vars { IfOk result (λ f. f.vars ≡ (query_circuit false p.now q.now).vars) }
     ensures few { IfOk result (λ f. length f.clauses < 2 ^ 31) }
     ensures few_vars { IfOk result (λ f. f.vars < 2 ^ 30) }
     ensures gates { IfOk result (λ f. f.vars ≤ 1 + input_count p.now q.now + load_of p.now) }

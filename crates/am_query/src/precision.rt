@@ -7,8 +7,8 @@ ghost use Rattle.am_gate.specs.Circuit.{HasInputs, HasRoom};
 ghost use Rattle.am_blast.specs.Words.{IsWord, reads};
 ghost use Rattle.am_slot.specs.Template.{selectors_of};
 ghost use Rattle.am_problem.specs.Examples.{all_fields};
-ghost use Rattle.am_query.specs.Answers.{IsPreciseAnswer, IsSpent};
-ghost use Rattle.am_query.specs.Formulas.{circuit_of, encoding_of};
+ghost use Rattle.am_query.specs.Answers.{IsPreciseAnswer, IsSpentQuery};
+ghost use Rattle.am_query.specs.Formulas.{encoding_of, query_circuit};
 ghost use Rattle.am_query.specs.Queries.{AreCompared, input_count};
 ghost use Rattle.am_query.specs.Transformers.{IsTransformerOf};
 ghost use Rattle.am_query.specs.declared.query.Query.TheVariants.{Fit, Precise};
@@ -50,7 +50,7 @@ pub fn precise(
     requires most { limit ≤ 2 ^ 30 }
     ensures answer { IfOk result (IsPreciseAnswer p.now t.now pos.now neg.now limit) }
     ensures enough { IfOk result (λ a.
-        3 ^ input_count p.now (Precise t.now pos.now neg.now) ≤ limit → ¬ IsSpent a) }
+        3 ^ input_count p.now (Precise t.now pos.now neg.now) ≤ limit → ¬ IsSpentQuery a) }
 {
     p.keeps_limits();
     refutations_are_sound();
@@ -90,7 +90,7 @@ pub fn stated_precise(
     ensures template { IfOk result (λ r. r.1 ≡ encoding_of p.now) }
     ensures selectors { IfOk result (λ r. 1 + selectors_of r.1 ≤ r.0.formula.vars) }
     ensures inputs { IfOk result (λ r.
-        ArePreciseInputs p.now (circuit_of folding p.now (Fit pos.now neg.now)).vars r.0.formula.vars r.2) }
+        ArePreciseInputs p.now (query_circuit folding p.now (Fit pos.now neg.now)).vars r.0.formula.vars r.2) }
 {
     let mut circuit = new_circuit(alloc, folding)?;
     let statements = Statements::new(alloc, p)?;

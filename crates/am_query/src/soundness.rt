@@ -6,7 +6,7 @@ ghost use Rattle.am_gate.specs.Build.{Follows};
 ghost use Rattle.am_gate.specs.Circuit.{HasInputs, HasRoom, start};
 ghost use Rattle.am_blast.specs.Words.{reads};
 ghost use Rattle.am_problem.specs.Examples.{all_fields};
-ghost use Rattle.am_query.specs.Answers.{IsSoundAnswer, IsSpent};
+ghost use Rattle.am_query.specs.Answers.{IsSoundAnswer, IsSpentQuery};
 ghost use Rattle.am_query.specs.Formulas.{sound};
 ghost use Rattle.am_query.specs.Queries.{input_count};
 ghost use Rattle.am_query.specs.Transformers.{IsTransformerOf};
@@ -43,7 +43,7 @@ pub fn sound(
     requires least { 1 ≤ limit }
     requires most { limit ≤ 2 ^ 30 }
     ensures answer { IfOk result (IsSoundAnswer p.now t.now limit) }
-    ensures enough { IfOk result (λ a. 3 ^ input_count p.now (Sound t.now) ≤ limit → ¬ IsSpent a) }
+    ensures enough { IfOk result (λ a. 3 ^ input_count p.now (Sound t.now) ≤ limit → ¬ IsSpentQuery a) }
 {
     p.keeps_limits();
     refutations_are_sound();

@@ -6,7 +6,7 @@ ghost use Rattle.am_lit.specs.UnitRow.{Determines};
 ghost use Rattle.am_chain.specs.Replay.{Refutes};
 ghost use Rattle.am_gate.specs.Circuit.{HasInputs, start};
 ghost use Rattle.am_solve.specs.Answers.{ChainsAreShort};
-ghost use Rattle.am_query.specs.Answers.{IsSpent};
+ghost use Rattle.am_query.specs.Answers.{IsSpentQuery};
 ghost use Rattle.am_query.specs.inside.Solved.{IsSolved};
 
 use crate::answers::QueryAnswer;
@@ -56,7 +56,7 @@ impl Stated {
         requires below { All (λ v. v < self.now.formula.vars) self.now.base }
         ensures answer { IfOk result (IsSolved self.now.formula limit) }
         ensures enough { IfOk result (λ a. Determines self.now.formula.clauses self.now.formula.vars self.now.base
-            → 3 ^ length self.now.base ≤ limit → ¬ IsSpent a) }
+            → 3 ^ length self.now.base ≤ limit → ¬ IsSpentQuery a) }
     {
         match solve(alloc, &self.formula, self.base.as_slice(), limit)? {
             Answer::Sat(assignment) => Ok(QueryAnswer::Found(assignment)),

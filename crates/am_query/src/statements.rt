@@ -2,7 +2,7 @@
 
 ghost use Rattle.std.specs.Prelude.{◌≡◌, ◌+◌, ◌*◌, ◌^◌, ◌<◌, IfOk, IsTrue};
 ghost use Rattle.am_gate.specs.Circuit.{IsLiteral, HasRoom};
-ghost use Rattle.am_gate.specs.Promises.{Gives};
+ghost use Rattle.am_gate.specs.Promises.{GivesStep};
 ghost use Rattle.am_blast.specs.Words.{IsWord};
 ghost use Rattle.am_problem.specs.Examples.{all_fields};
 ghost use Rattle.am_bv.specs.Terms.{fits, nodes};
@@ -104,7 +104,7 @@ impl<'a> Statements<'a> {
         requires word { IsWord self.now.width circuit.old.vars word }
         requires room { HasRoom (member_weight self.now) circuit.old }
         ensures { IfOk result (λ r.
-            Gives (member_test self.now tuple word) (member_weight self.now) IsLiteral circuit.old r circuit.new) }
+            GivesStep (member_test self.now tuple word) (member_weight self.now) IsLiteral circuit.old r circuit.new) }
     {
         let mut words = tuple;
         words.push(word)?;

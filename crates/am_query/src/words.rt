@@ -2,11 +2,11 @@
 
 ghost use Rattle.std.specs.Prelude.{◌≡◌, ◌+◌, ◌*◌, ◌^◌, ◌<◌, All, IfOk, IsTrue, length, map, sum_by};
 ghost use Rattle.am_gate.specs.Circuit.{IsLiteral, HasInputs, HasRoom};
-ghost use Rattle.am_gate.specs.Promises.{Gives};
+ghost use Rattle.am_gate.specs.Promises.{GivesStep};
 ghost use Rattle.am_bv.specs.Terms.{fits, nodes, weight};
 ghost use Rattle.am_blast.specs.Words.{IsWord, constant};
 ghost use Rattle.am_blast.specs.Circuits.{blasted, in_turn};
-ghost use Rattle.am_problem.specs.Loads.{test_weight};
+ghost use Rattle.am_problem.specs.Loads.{tested_term_weight};
 ghost use Rattle.am_query.specs.Formulas.{input_word, input_words, test};
 ghost use Rattle.am_query.specs.inside.Words.{AreWordsIn};
 
@@ -28,9 +28,9 @@ pub fn test(
     requires fits { IsTrue (fits w (length words.now) term.now) }
     requires nodes { nodes term.now < 2 ^ 32 }
     requires words { All (IsWord w circuit.old.vars) words.now }
-    requires room { HasRoom (test_weight w term.now) circuit.old }
+    requires room { HasRoom (tested_term_weight w term.now) circuit.old }
     ensures { IfOk result (λ r.
-        Gives (test w term.now words.now) (test_weight w term.now) IsLiteral circuit.old r circuit.new) }
+        GivesStep (test w term.now words.now) (tested_term_weight w term.now) IsLiteral circuit.old r circuit.new) }
 {
     let value = blast(alloc, circuit, w, term, words)?;
     let l = is_nonzero(circuit, value.as_slice())?;
@@ -50,7 +50,7 @@ pub fn blast_all(
     requires words { All (IsWord w circuit.old.vars) fields.now }
     requires room { HasRoom (sum_by (weight w) terms.now) circuit.old }
     ensures { IfOk result (λ r.
-        Gives (in_turn (map (blasted w fields.now) terms.now)) (sum_by (weight w) terms.now)
+        GivesStep (in_turn (map (blasted w fields.now) terms.now)) (sum_by (weight w) terms.now)
         (AreWordsIn w (length terms.now)) circuit.old r circuit.new) }
 {
     let mut words = Words::new(alloc);
@@ -98,7 +98,7 @@ pub fn input_word(
 ) -> Result<WordLits, AllocError>
     requires room { HasRoom w circuit.old }
     requires inputs { HasInputs base.old circuit.old }
-    ensures ok { IfOk result (λ r. Gives (input_word w) w (IsWord w) circuit.old r circuit.new) }
+    ensures ok { IfOk result (λ r. GivesStep (input_word w) w (IsWord w) circuit.old r circuit.new) }
     ensures inputs { IfOk result (λ r. HasInputs base.new circuit.new) }
     ensures count { IfOk result (λ r. length base.new ≡ length base.old + w) }
 {
@@ -122,7 +122,7 @@ pub fn input_words(
     requires room { HasRoom (count * w) circuit.old }
     requires inputs { HasInputs base.old circuit.old }
     ensures ok { IfOk result (λ r.
-        Gives (input_words w count) (count * w) (AreWordsIn w count) circuit.old r circuit.new) }
+        GivesStep (input_words w count) (count * w) (AreWordsIn w count) circuit.old r circuit.new) }
     ensures inputs { IfOk result (λ r. HasInputs base.new circuit.new) }
     ensures count { IfOk result (λ r. length base.new ≡ length base.old + count * w) }
 {

@@ -19,7 +19,7 @@ use Rattle.am_slot.specs.Decoded.{picked, no_tree, tree_by, level_trees, trees}
 use Rattle.am_slot.specs.declared.clauses.Asked.{Asked}
 use Rattle.am_slot.specs.Clauses.{asks, pairs, children, slot_clauses, level_clauses, next_asked, symbols, clauses_from}
 use Rattle.am_slot.proofs.Rows.{AllThree, front, behind, found}
-use Rattle.am_slot.proofs.Picks.{AllTrue, true-front, true-behind, Demanded, picked_chosen, chosen_of, asks_chosen}
+use Rattle.am_slot.proofs.Picks.{AllTrue, true-front, true-after, Demanded, picked_chosen, chosen_of, asks_chosen}
 
 -- the next level's nonterminals
 pub symbols-next : (rules : Rules) (below x : ℕ) (ss : List Asked) →
@@ -109,7 +109,7 @@ module _ (rules : Rules) (v : ℕ → Bool) where
         (λ d. slot_derives below s.symbol x _ (front (Derived below) f ks _ ts ts h)
             (own_true own s.by (true-front v (map (λ a. a ++ own) s.by) (pairs own) here) d)),
         level_derives below ss (x + width rules below s.symbol) _ (behind (Derived below) f ks _ ts ts h)
-            (true-behind v (slot_clauses s.by own) _ c),
+            (true-after v (slot_clauses s.by own) _ c),
       )
 
   last_level : (ss : List Asked) (x : ℕ) → AllThree (Derived zero) (next_asked rules zero x ss) [] []
@@ -125,5 +125,5 @@ module _ (rules : Rules) (v : ℕ → Bool) where
       let here = true-front v (level_clauses rules (suc below) x ss) _ c in
       let more =
       trees_derive below (next_asked rules (suc below) x ss) (x + widths rules (suc below) (symbols ss))
-      (true-behind v (level_clauses rules (suc below) x ss) _ c) in
+      (true-after v (level_clauses rules (suc below) x ss) _ c) in
       level_derives (suc below) ss x _ (rw (symbols-next rules (suc below) x ss) at more) here

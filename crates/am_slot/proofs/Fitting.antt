@@ -9,11 +9,11 @@ use Rattle.am_tree.specs.Grammars.{is_production}
 use Rattle.am_tree.specs.Trees.{Rules}
 use Rattle.am_tree.proofs.Laws.{leaf-small, short-production}
 use Rattle.am_slot.specs.Encoding.{Encoding, IsEncoding, is_leaf_over, AreOver}
-use Rattle.am_slot.specs.inside.Fits.{IsSmall, IsFit, AreFit}
+use Rattle.am_slot.specs.inside.Fits.{IsSmallLeaf, IsFit, AreFit}
 use Rattle.am_slot.proofs.Premises.{suits_of}
 use Rattle.am_slot.proofs.Tables.{whole}
 
-small : (n : ℕ) (p : Production) → IsTrue (is_production n p) → IsSmall p
+small : (n : ℕ) (p : Production) → IsTrue (is_production n p) → IsSmallLeaf p
 small n (Leaf t) h = let few = leaf-small n t h in omega (arith, few)
 small n (Node op names) h = tt
 

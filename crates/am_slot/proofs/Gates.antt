@@ -23,7 +23,7 @@ use Rattle.am_tree.proofs.Laws.{IsOffered, Stands, are_offered}
 use Rattle.am_slot.specs.Selectors.{width, widths, room, selector}
 use Rattle.am_slot.specs.Blocks.{production_word, chosen_word, slot_word, level_words, words}
 use Rattle.am_slot.proofs.Rows.{AllThree, front, behind, found}
-use Rattle.am_slot.specs.inside.Fits.{Suits}
+use Rattle.am_slot.specs.inside.Fits.{SuitsArity}
 
 pairs_of : (rules : Rules) (below n : ℕ) (ps : List Numbered) → AllByRecursion (IsOffered rules below n) ps →
     AllByRecursion
@@ -34,7 +34,7 @@ pairs_of rules below n [] h = tt
 pairs_of rules below n (p ∷ ps) h = ((h.0.at, h.0.inside), pairs_of rules below n ps h.1)
 
 module _ (rules : Rules) (w : ℕ) (one : 1 ≤ w) (fields : List (List ℕ))
-    (suits : (n k : ℕ) (p : Production) → production_at rules n k ≡ Some p → Suits w (length fields) p) where
+    (suits : (n k : ℕ) (p : Production) → production_at rules n k ≡ Some p → SuitsArity w (length fields) p) where
   abbrev Word : ℕ → ℕ → List ℕ → List ℕ → Type 0
   Word vars n x y = IsWord w vars x
 
@@ -69,7 +69,7 @@ module _ (rules : Rules) (w : ℕ) (one : 1 ≤ w) (fields : List (List ℕ))
 
   Makes-production : (ks : List Argument) (xs : List (List ℕ)) (q : Production) (p : Place) → 0 < p.next →
       All (IsWord w p.next) fields → Worded p.next (map (λ a. a.symbol) ks) xs →
-      Suits w (length fields) q → AllByRecursion (Stands ks) (arguments q) →
+      SuitsArity w (length fields) q → AllByRecursion (Stands ks) (arguments q) →
       MakesGates (production_word w fields ks xs q) (production_weight w q) (IsWord w) p
   Makes-production ks xs (Leaf t) p pos hf hx fit s = Makes-blasted w one fields t fit p pos hf
   Makes-production ks xs (Node op names) p pos hf hx fit s =
@@ -86,7 +86,7 @@ module _ (rules : Rules) (w : ℕ) (one : 1 ≤ w) (fields : List (List ℕ))
 
   pub Makes-chosen : (ks : List Argument) (xs : List (List ℕ)) (q : Production) (x : ℕ) (old : List ℕ) (p : Place) →
       0 < p.next → All (IsWord w p.next) fields → Worded p.next (map (λ a. a.symbol) ks) xs →
-      Suits w (length fields) q → AllByRecursion (Stands ks) (arguments q) → x < p.next → IsWord w p.next old →
+      SuitsArity w (length fields) q → AllByRecursion (Stands ks) (arguments q) → x < p.next → IsWord w p.next old →
       MakesGates (chosen_word w fields ks xs q x old) (production_weight w q + w) (IsWord w) p
   unfolding chosen_word
   Makes-chosen ks xs q x old p pos hf hx fit s l h =

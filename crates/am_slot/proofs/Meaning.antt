@@ -23,12 +23,12 @@ use Rattle.am_tree.proofs.Laws.{term_of-tree, IsOffered, Stands, are_offered}
 use Rattle.am_slot.specs.Selectors.{width, widths, selector}
 use Rattle.am_slot.specs.Decoded.{picked, no_tree, tree_by, level_trees, trees}
 use Rattle.am_slot.specs.Blocks.{production_word, chosen_word, slot_word, level_words, words}
-use Rattle.am_slot.specs.inside.Fits.{Suits}
+use Rattle.am_slot.specs.inside.Fits.{SuitsArity}
 use Rattle.am_slot.proofs.Rows.{AllThree, front, behind, found}
 
 module _ (rules : Rules) (w : ℕ) (one : 1 ≤ w) (fields : List (List ℕ)) (v : ℕ → Bool)
     (long : All (λ word. length word ≡ w) fields)
-    (suits : (n k : ℕ) (p : Production) → production_at rules n k ≡ Some p → Suits w (length fields) p) where
+    (suits : (n k : ℕ) (p : Production) → production_at rules n k ≡ Some p → SuitsArity w (length fields) p) where
   -- the value of a nonterminal's tree at what the fields read
   abbrev value : ℕ → Tree → ℕ
   value n t = val w (term_of rules n t) (map (reads v) fields)
@@ -72,7 +72,7 @@ module _ (rules : Rules) (w : ℕ) (one : 1 ≤ w) (fields : List (List ℕ)) (v
 
   production_means : (n : ℕ) (ks : List Argument) (ts : List Tree) (xs : List (List ℕ)) →
       AllThree Shows (map symbol ks) ts xs →
-      (k : ℕ) (q : Production) → Suits w (length fields) q → AllByRecursion (Stands ks) (arguments q) →
+      (k : ℕ) (q : Production) → SuitsArity w (length fields) q → AllByRecursion (Stands ks) (arguments q) →
       Means v (production_word w fields ks xs q)
       (ReadsAs v w
       (val w

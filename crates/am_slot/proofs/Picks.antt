@@ -25,8 +25,8 @@ module _ (v : ℕ → Bool) where
   true-front cs ds h = (and_parts _ _ (sym (list_all-append (clause_value v) cs ds) ∙ h)).0
 
   -- and the second is
-  pub true-behind : (cs ds : List (List ℕ)) → AllTrue (cs ++ ds) → AllTrue ds
-  true-behind cs ds h = (and_parts _ _ (sym (list_all-append (clause_value v) cs ds) ∙ h)).1
+  pub true-after : (cs ds : List (List ℕ)) → AllTrue (cs ++ ds) → AllTrue ds
+  true-after cs ds h = (and_parts _ _ (sym (list_all-append (clause_value v) cs ds) ∙ h)).1
 
   -- the production stands in the list, and its selector is true
   abbrev pub Chosen : ℕ → List Numbered → Numbered → Type 0

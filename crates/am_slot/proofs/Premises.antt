@@ -12,7 +12,7 @@ use Rattle.am_tree.specs.declared.grammar.Production.TheVariants.{Leaf, Node}
 use Rattle.am_tree.specs.Grammars.{is_production}
 use Rattle.am_tree.specs.Trees.{Rules, production_at}
 use Rattle.am_slot.specs.Encoding.{Encoding, IsEncoding, is_leaf_over, AreOver}
-use Rattle.am_slot.specs.inside.Fits.{Suits}
+use Rattle.am_slot.specs.inside.Fits.{SuitsArity}
 
 module _ (P : Production → Type 0) where
   in_list : (ps : List Production) (k : ℕ) (p : Production) → AllByRecursion P ps → slice_get ps k ≡ Some p → P p
@@ -34,7 +34,7 @@ module _ (P : Production → Type 0) where
 
 -- each production suits the width and the fields
 abbrev pub AllSuit : Rules → ℕ → ℕ → Type 0
-AllSuit rules w count = (n k : ℕ) (p : Production) → production_at rules n k ≡ Some p → Suits w count p
+AllSuit rules w count = (n k : ℕ) (p : Production) → production_at rules n k ≡ Some p → SuitsArity w count p
 
 -- each operator has arguments
 abbrev pub Arities : Rules → Type 0
@@ -44,7 +44,7 @@ Arities rules = (n k : ℕ) (p : Production) → production_at rules n k ≡ Som
 
 -- a production of a grammar whose leaf is over the fields suits them
 pub suits_of : (w count n : ℕ) (p : Production) → IsTrue (is_production n p) → IsTrue (is_leaf_over w count p)
-    → Suits w count p
+    → SuitsArity w count p
 suits_of w count n (Leaf t) h o = o
 suits_of w count n (Node op names) h o = eqb-true (length names) (arity op) (and_parts _ _ h).0
 

@@ -23,9 +23,10 @@ use Rattle.am_slot.specs.declared.clauses.Asked.{Asked}
 use Rattle.am_slot.specs.Clauses.{root, asks, pairs, children, slot_clauses, level_clauses, next_asked, symbols}
 use Rattle.am_slot.specs.Clauses.{clauses_from}
 use Rattle.am_slot.specs.Encoding.{Encoding, IsEncoding, AreOver}
-use Rattle.am_slot.specs.Template.{selectors_of, clauses_of, inputs, told, template, decoded, block, IsDerived}
+use Rattle.am_slot.specs.Template.{selectors_of, slot_clauses_of, inputs, told, template, decoded, block}
+use Rattle.am_slot.specs.Template.{IsDerivedTuple}
 use Rattle.am_slot.specs.Template.{AreOutputs, ReadAs}
-use Rattle.am_slot.specs.Theorems.{Serves, AgreeOnSelectors, Keeps, MakesSelectors}
+use Rattle.am_slot.specs.Theorems.{Serves, AgreeOnSelectors, KeepsTuple, MakesSelectors}
 use Rattle.am_slot.proofs.Derived.{symbols-next}
 use Rattle.am_slot.proofs.Whole.{template_from, template_to, tuple_derives, Chooses, tuple_chosen, agrees-value}
 use Rattle.am_slot.proofs.Whole.{block_reads, block_makes}
@@ -199,7 +200,7 @@ below_one bs v t zero l = sym t
 below_one bs v t (suc x) l = absurd (omega (arith, l))
 
 -- each clause is over the selectors alone
-pub all-inside : (e : Encoding) (n : ℕ) → 1 + selectors_of e ≤ n → AllInside n (clauses_of e)
+pub all-inside : (e : Encoding) (n : ℕ) → 1 + selectors_of e ≤ n → AllInside n (slot_clauses_of e)
 all-inside e n l =
     clauses-in n e.rules (e.depth - 1) 1 (map root e.starts) (roots-in n e.starts) (rw (symbols-roots e.starts) l)
 
@@ -214,15 +215,16 @@ module _ (e : Encoding) (p : Place) (first : p.next ≡ 1) where
   template-scoped : AreScoped p.next (template e p).events
   unfolding template ◌>>=◌ behind
   template-scoped =
-      AreScoped-append p (inputs (selectors_of e) p).events (told (clauses_of e) behind).events
+      AreScoped-append p (inputs (selectors_of e) p).events (told (slot_clauses_of e) behind).events
       (inputs-scoped (selectors_of e) p)
-      (told-scoped (clauses_of e) behind (all-inside e behind.next (omega (arith, there))))
+      (told-scoped (slot_clauses_of e) behind (all-inside e behind.next (omega (arith, there))))
 
   template-next : (past p (template e p).events).next ≡ 1 + selectors_of e
   unfolding template ◌>>=◌ behind
   template-next =
-      ap (λ (z : Place). z.next) (past-append p (inputs (selectors_of e) p).events (told (clauses_of e) behind).events)
-      ∙ told-next (clauses_of e) behind ∙ there
+      ap (λ (z : Place). z.next) (past-append p (inputs (selectors_of e) p).events
+      (told (slot_clauses_of e) behind).events)
+      ∙ told-next (slot_clauses_of e) behind ∙ there
 
 -- a template makes its selectors, and clauses over them
 pub template_makes : (e : Encoding) (p : Place) → p.next ≡ 1 → MakesSelectors e p
@@ -230,8 +232,8 @@ unfolding template ◌>>=◌ behind
 template_makes e p first = record {
   scoped = template-scoped e p first;
   inputs =
-      inputs_of-append p (inputs (selectors_of e) p).events (told (clauses_of e) (behind e p first)).events
-      ∙ rw (told-inputs (clauses_of e) (behind e p first) (behind e p first).next) (append-nil _)
+      inputs_of-append p (inputs (selectors_of e) p).events (told (slot_clauses_of e) (behind e p first)).events
+      ∙ rw (told-inputs (slot_clauses_of e) (behind e p first) (behind e p first).next) (append-nil _)
       ∙ inputs-inputs (selectors_of e) p
       ∙ ap (λ n. range_with_len n (selectors_of e)) first;
   next = template-next e p first;
@@ -263,7 +265,7 @@ block_reached e is fields over v t p l words =
     record { scoped = r.scoped; values = r.values; below = r.below; meets = r.meets; given = (r.given.0, r.given.1) }
 
 module _ (e : Encoding) (is : IsEncoding e) (ts : List Tree) where
-  keeps : (bs : List Bool) → Chooses e ts bs → Keeps e (value_at (true ∷ bs)) ts
+  keeps : (bs : List Bool) → Chooses e ts bs → KeepsTuple e (value_at (true ∷ bs)) ts
   keeps bs c =
       let decodes =
       λ (v : ℕ → Bool) (a : AgreeOnSelectors e v (value_at (true ∷ bs))).
@@ -284,8 +286,8 @@ module _ (e : Encoding) (is : IsEncoding e) (ts : List Tree) where
       }
 
   -- the tuple is decoded from some truth values, which serve every block
-  pub tuple_reached : IsDerived e ts → (v : ℕ → Bool) → IsTrue (v 0) → (p : Place) → p.next ≡ 1 →
-      Reaches v (template e) p (λ u q a. (q.next ≡ 1 + selectors_of e) × Keeps e u ts)
+  pub tuple_reached : IsDerivedTuple e ts → (v : ℕ → Bool) → IsTrue (v 0) → (p : Place) → p.next ≡ 1 →
+      Reaches v (template e) p (λ u q a. (q.next ≡ 1 + selectors_of e) × KeepsTuple e u ts)
   tuple_reached h v t p first =
       let r = tuple_chosen e is ts h in
       record {

@@ -13,7 +13,7 @@ use Rattle.am_gate.proofs.Laws.{never-input, Follows-bind, place_of-built, built
 use Rattle.am_gate.proofs.Laws.{HasInputs-start, HasInputs-Follows}
 use Rattle.am_tree.specs.declared.tree.Tree.{Tree}
 use Rattle.am_slot.specs.Encoding.{Encoding, IsEncoding}
-use Rattle.am_slot.specs.Template.{selectors_of, clauses_of, inputs, told, template, decoded, IsDerived}
+use Rattle.am_slot.specs.Template.{selectors_of, slot_clauses_of, inputs, told, template, decoded, IsDerivedTuple}
 use Rattle.am_slot.specs.Theorems.{MakesSelectors}
 use Rattle.am_slot.proofs.Picks.{AllTrue}
 use Rattle.am_slot.proofs.Whole.{template_from, template_to, tuple_derives, tuple_chosen, agrees-value}
@@ -21,7 +21,7 @@ use Rattle.am_slot.proofs.Scope.{template_makes, all-inside}
 
 -- a template is made by its inputs, then its clauses
 pub Follows-template : (e : Encoding) (a b c : Net) → Follows (inputs (selectors_of e)) a tt b
-    → Follows (told (clauses_of e)) b tt c
+    → Follows (told (slot_clauses_of e)) b tt c
     → Follows (template e) a tt c
 unfolding template
 Follows-template e a b c one two = Follows-bind _ one two
@@ -51,16 +51,17 @@ satisfied_true v [] h = refl
 satisfied_true v (c ∷ cs) h = and_from _ _ h.0 (satisfied_true v cs h.1)
 
 -- what satisfies the clauses decodes to a tuple that derives
-pub derived_by : (e : Encoding) → IsEncoding e → (v : ℕ → Bool) → Satisfies v (clauses_of e) → IsDerived e (decoded e v)
+pub derived_by : (e : Encoding) → IsEncoding e → (v : ℕ → Bool) → Satisfies v (slot_clauses_of e) → IsDerivedTuple e
+    (decoded e v)
 derived_by e is v h =
     tuple_derives e is v
-    (satisfied_true v (clauses_of e) (recursion_from_All (λ c. IsTrue (clause_value v c)) (clauses_of e) h))
+    (satisfied_true v (slot_clauses_of e) (recursion_from_All (λ c. IsTrue (clause_value v c)) (slot_clauses_of e) h))
 
 -- literals of the circuit
 
 -- the literals of all clauses are of variable 0 and the selectors
-pub clauses_in : (e : Encoding) (n : ℕ) → 1 + selectors_of e ≤ n → All (All (IsLiteral n)) (clauses_of e)
-clauses_in e n l = go (clauses_of e) (all-inside e n l)
+pub clauses_in : (e : Encoding) (n : ℕ) → 1 + selectors_of e ≤ n → All (All (IsLiteral n)) (slot_clauses_of e)
+clauses_in e n l = go (slot_clauses_of e) (all-inside e n l)
   where
     each : (cs : List (List ℕ)) → AllByRecursion (λ c. AllByRecursion (IsLiteral n) c) cs
         → AllByRecursion (All (IsLiteral n)) cs
@@ -88,25 +89,25 @@ module _ (e : Encoding) (folding : Bool) (new : Net) (f : Follows (template e) (
       (HasInputs-Follows (HasInputs-start folding) f makes.scoped)
 
   -- it has the clauses of a new circuit, then the template's
-  pub new-clauses : new.clauses ≡ (start folding).clauses ++ flat_map added (clauses_of e)
+  pub new-clauses : new.clauses ≡ (start folding).clauses ++ flat_map added (slot_clauses_of e)
   unfolding template ◌>>=◌
   new-clauses =
       let n = start folding in
       let es = (inputs (selectors_of e) (place_of n)).events in
-      let fs = (told (clauses_of e) (past (place_of n) es)).events in
+      let fs = (told (slot_clauses_of e) (past (place_of n) es)).events in
       ap (λ (m : Net). m.clauses) (f.circuit ∙ built-append n es fs)
-      ∙ after_told (clauses_of e) (built n es) (past (place_of n) es)
-      ∙ ap (λ (l : List (List ℕ)). l ++ flat_map added (clauses_of e)) (after_inputs (selectors_of e) n)
+      ∙ after_told (slot_clauses_of e) (built n es) (past (place_of n) es)
+      ∙ ap (λ (l : List (List ℕ)). l ++ flat_map added (slot_clauses_of e)) (after_inputs (selectors_of e) n)
 
   -- what satisfies it decodes to a tuple that derives
-  pub new-derived : IsEncoding e → (v : ℕ → Bool) → Satisfies v new.clauses → IsDerived e (decoded e v)
+  pub new-derived : IsEncoding e → (v : ℕ → Bool) → Satisfies v new.clauses → IsDerivedTuple e (decoded e v)
   new-derived is v h =
       let es = (template e (place_of (start folding))).events in
       let met = (Satisfies-built v folding es).0 (rw f.circuit at h) in
       tuple_derives e is v (template_from e v (place_of (start folding)) met.1)
 
   -- each tuple that derives is decoded from what satisfies it
-  pub new-reached : IsEncoding e → (ts : List Tree) → IsDerived e ts
+  pub new-reached : IsEncoding e → (ts : List Tree) → IsDerivedTuple e ts
       → (v : ℕ → Bool) × Satisfies v new.clauses × (decoded e v ≡ ts)
   new-reached is ts h =
       let r = tuple_chosen e is ts h in

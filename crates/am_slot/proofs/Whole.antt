@@ -18,8 +18,9 @@ use Rattle.am_slot.specs.declared.clauses.Asked.{Asked}
 use Rattle.am_slot.specs.Clauses.{root, symbols}
 use Rattle.am_slot.proofs.Held.{Held, asked, level_bits, next_held, bits}
 use Rattle.am_slot.specs.Encoding.{Encoding, IsEncoding, AreOver}
-use Rattle.am_slot.specs.Template.{selectors_of, clauses_of, inputs, told, template, decoded, block, weight_of_block}
-use Rattle.am_slot.specs.Template.{IsDerived, AreOutputs, ReadAs}
+use Rattle.am_slot.specs.Template.{selectors_of, slot_clauses_of, inputs, told, template, decoded, block}
+use Rattle.am_slot.specs.Template.{weight_of_block}
+use Rattle.am_slot.specs.Template.{IsDerivedTuple, AreOutputs, ReadAs}
 use Rattle.am_slot.proofs.Rows.{AllThree}
 use Rattle.am_slot.proofs.Picks.{AllTrue}
 use Rattle.am_slot.proofs.Derived.{Derived, trees_derive}
@@ -59,14 +60,14 @@ agrees-same u v x (b ∷ bs) f h =
 
 module _ (e : Encoding) (v : ℕ → Bool) where
   -- where a template's events are met, its clauses are true
-  pub template_from : (p : Place) → Meets v p.next (template e p).events → AllTrue v (clauses_of e)
+  pub template_from : (p : Place) → Meets v p.next (template e p).events → AllTrue v (slot_clauses_of e)
   unfolding template ◌>>=◌
   template_from p h =
       told_from v _ (past p (inputs (selectors_of e) p).events)
       (Meets-parts v p (inputs (selectors_of e) p).events _ h).1
 
   -- and the other way round
-  pub template_to : (p : Place) → AllTrue v (clauses_of e) → Meets v p.next (template e p).events
+  pub template_to : (p : Place) → AllTrue v (slot_clauses_of e) → Meets v p.next (template e p).events
   unfolding template ◌>>=◌
   template_to p h =
       let es = (inputs (selectors_of e) p).events in
@@ -92,8 +93,8 @@ deep : (d : ℕ) → 1 ≤ d → suc (d - 1) ≡ d
 deep d one = omega (arith, one)
 
 -- where the clauses are true, the decoded tuple derives
-pub tuple_derives : (e : Encoding) → IsEncoding e → (v : ℕ → Bool) → AllTrue v (clauses_of e) →
-    IsDerived e (decoded e v)
+pub tuple_derives : (e : Encoding) → IsEncoding e → (v : ℕ → Bool) → AllTrue v (slot_clauses_of e) →
+    IsDerivedTuple e (decoded e v)
 tuple_derives e is v h =
     let all = trees_derive e.rules v (e.depth - 1) (map root e.starts) 1 h in
     rw (deep e.depth is.grammar.some_depth) at
@@ -163,11 +164,11 @@ length-bits rules arities (suc below) x hs =
 -- the truth values of the selectors that choose a tuple
 pub record Chooses (e : Encoding) (ts : List Tree) (bs : List Bool) : Type 0 where
   pub long : length bs ≡ selectors_of e
-  pub meets : (v : ℕ → Bool) → Agrees v 1 bs → AllTrue v (clauses_of e)
+  pub meets : (v : ℕ → Bool) → Agrees v 1 bs → AllTrue v (slot_clauses_of e)
   pub gives : (v : ℕ → Bool) → Agrees v 1 bs → decoded e v ≡ ts
 
 -- each tuple that derives is chosen by some truth values
-pub tuple_chosen : (e : Encoding) → IsEncoding e → (ts : List Tree) → IsDerived e ts →
+pub tuple_chosen : (e : Encoding) → IsEncoding e → (ts : List Tree) → IsDerivedTuple e ts →
     (bs : List Bool) × Chooses e ts bs
 tuple_chosen e is ts z =
     let below = e.depth - 1 in

@@ -21,8 +21,8 @@ abbrev pub selectors_of : Encoding → ℕ
 selectors_of e = room e.rules (e.depth - 1) e.starts
 
 -- the clauses of all slots
-abbrev pub clauses_of : Encoding → List (List ℕ)
-clauses_of e = clauses_from e.rules (e.depth - 1) 1 (map root e.starts)
+abbrev pub slot_clauses_of : Encoding → List (List ℕ)
+slot_clauses_of e = clauses_from e.rules (e.depth - 1) 1 (map root e.starts)
 
 -- so many inputs
 unfoldable pub inputs : ℕ → Step (Unit {0})
@@ -42,7 +42,7 @@ told (c ∷ cs) = do
 unfoldable pub template : Encoding → Step (Unit {0})
 template e = do
   u ← inputs (selectors_of e)
-  told (clauses_of e)
+  told (slot_clauses_of e)
 
 -- the block at these fields: one word for each start
 abbrev pub block : Encoding → List (List ℕ) → Step (List (List ℕ))
@@ -53,16 +53,16 @@ abbrev pub weight_of_block : Encoding → ℕ
 weight_of_block e = block_weight e.rules e.width (e.depth - 1) e.starts
 
 -- a tuple of trees, one for each start, that derive with the depth
-abbrev pub IsDerived : Encoding → List Tree → Type 0
-IsDerived e ts = AllZip (Derives e.rules e.depth) e.starts ts
+abbrev pub IsDerivedTuple : Encoding → List Tree → Type 0
+IsDerivedTuple e ts = AllZip (Derives e.rules e.depth) e.starts ts
 
 -- the tuple of trees that truth values choose
 abbrev pub decoded : Encoding → (ℕ → Bool) → List Tree
 decoded e v = trees e.rules v (e.depth - 1) 1 e.starts
 
 -- the terms that a tuple of trees gives
-abbrev pub terms_of : Encoding → List Tree → List Term
-terms_of e ts = terms_at e.starts (map (λ t n. term_of e.rules n t) ts)
+abbrev pub encoded_terms : Encoding → List Tree → List Term
+encoded_terms e ts = terms_at e.starts (map (λ t n. term_of e.rules n t) ts)
 
 -- one word for each start, of literals of variables below a number
 pub record AreOutputs (e : Encoding) (vars : ℕ) (words : List (List ℕ)) : Type 0 where
@@ -73,4 +73,4 @@ pub record AreOutputs (e : Encoding) (vars : ℕ) (words : List (List ℕ)) : Ty
 pub record ReadAs (e : Encoding) (fields : List (List ℕ)) (v : ℕ → Bool) (ts : List Tree) (words : List (List ℕ))
     : Type 0 where
   pub bits : All (λ word. length word ≡ e.width) words
-  pub values : map (reads v) words ≡ map (λ t. val e.width t (map (reads v) fields)) (terms_of e ts)
+  pub values : map (reads v) words ≡ map (λ t. val e.width t (map (reads v) fields)) (encoded_terms e ts)

@@ -9,7 +9,7 @@ use Rattle.am_blast.specs.Words.{IsWord}
 use Rattle.am_tree.specs.declared.tree.Tree.{Tree}
 use Rattle.am_tree.specs.Slots.{layout_of}
 use Rattle.am_slot.specs.Encoding.{Encoding, IsEncoding, AreOver}
-use Rattle.am_slot.specs.Template.{selectors_of, template, block, weight_of_block, IsDerived, decoded, AreOutputs}
+use Rattle.am_slot.specs.Template.{selectors_of, template, block, weight_of_block, IsDerivedTuple, decoded, AreOutputs}
 use Rattle.am_slot.specs.Template.{ReadAs}
 
 -- one selector for each production of each slot of the layout
@@ -20,7 +20,7 @@ SelectorsAreThoseOfTheLayout =
 -- from truth values to a tuple: what they decode to derives, and the words of every block, wherever it is
 -- made, read as the values of this one tuple
 pub record Serves (e : Encoding) (v : ℕ → Bool) (ts : List Tree) : Type 0 where
-  pub derived : IsDerived e ts
+  pub derived : IsDerivedTuple e ts
   pub blocks :
       (fields : List (List ℕ)) → AreOver e (length fields) → All (λ field. length field ≡ e.width) fields →
       Means v (block e fields) (ReadAs e fields v ts)
@@ -35,7 +35,7 @@ AgreeOnSelectors e u v = (x : ℕ) → x < 1 + selectors_of e → u x ≡ v x
 
 -- from a tuple to truth values: whatever else is made, and with whatever truth values of the other
 -- variables, every block can be met from there, and its words read as the values of the tuple
-pub record Keeps (e : Encoding) (u : ℕ → Bool) (ts : List Tree) : Type 0 where
+pub record KeepsTuple (e : Encoding) (u : ℕ → Bool) (ts : List Tree) : Type 0 where
   pub decodes : (v : ℕ → Bool) → AgreeOnSelectors e v u → decoded e v ≡ ts
   pub blocks :
       (v : ℕ → Bool) → AgreeOnSelectors e v u → (p : Place) → 1 + selectors_of e ≤ p.next →
@@ -45,9 +45,9 @@ pub record Keeps (e : Encoding) (u : ℕ → Bool) (ts : List Tree) : Type 0 whe
 -- each tuple that derives is decoded from some truth values, which serve every block
 abbrev pub DerivedTuplesAreReached : Type 0
 DerivedTuplesAreReached =
-    (e : Encoding) → IsEncoding e → (ts : List Tree) → IsDerived e ts →
+    (e : Encoding) → IsEncoding e → (ts : List Tree) → IsDerivedTuple e ts →
     (v : ℕ → Bool) → IsTrue (v 0) → (p : Place) → p.next ≡ 1 →
-    Reaches v (template e) p (λ u q a. (q.next ≡ 1 + selectors_of e) × Keeps e u ts)
+    Reaches v (template e) p (λ u q a. (q.next ≡ 1 + selectors_of e) × KeepsTuple e u ts)
 
 -- a template makes its selectors, as inputs, and clauses over them
 pub record MakesSelectors (e : Encoding) (p : Place) : Type 0 where

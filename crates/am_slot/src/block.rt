@@ -2,13 +2,13 @@
 
 ghost use Rattle.std.specs.Prelude.{◌≡◌, ◌≤◌, ◌<◌, ◌+◌, ◌-◌, ℕ, [], All, IfOk, length, map, slice_index_or};
 ghost use Rattle.am_gate.specs.Circuit.{HasRoom, Begins};
-ghost use Rattle.am_gate.specs.Promises.{Gives};
+ghost use Rattle.am_gate.specs.Promises.{GivesStep};
 ghost use Rattle.am_blast.specs.Words.{IsWord, zeros};
 ghost use Rattle.am_tree.specs.Slots.{positioned, at_argument, offered, shared, next_level};
 ghost use Rattle.am_tree.specs.Weights.{production_weight, slot_weight, level_weight, block_weight};
 ghost use Rattle.am_slot.specs.Blocks.{production_word, chosen_word, slot_word, level_words, words};
 ghost use Rattle.am_slot.specs.Selectors.{width, widths, room};
-ghost use Rattle.am_slot.specs.inside.Fits.{IsFit, AreFit, ArgumentsStand, AreWordsOf};
+ghost use Rattle.am_slot.specs.inside.Fits.{IsFit, AreFit, ArgumentsStand, AreLiteralWords};
 
 use crate::places::place_of;
 use crate::rules::RuleTable;
@@ -50,10 +50,10 @@ impl Block<'_> {
         requires fields { All (IsWord self.now.width circuit.old.vars) self.now.fields.now }
         requires selectors { x + room self.now.rules.now below symbols.now ≤ circuit.old.vars }
         requires room { HasRoom (block_weight self.now.rules.now self.now.width below symbols.now) circuit.old }
-        ensures ok { IfOk result (λ r. Gives
+        ensures ok { IfOk result (λ r. GivesStep
             (words self.now.rules.now self.now.width self.now.fields.now below x symbols.now)
             (block_weight self.now.rules.now self.now.width below symbols.now)
-            (AreWordsOf self.now.width (length symbols.now)) circuit.old r.items circuit.new) }
+            (AreLiteralWords self.now.width (length symbols.now)) circuit.old r.items circuit.new) }
         ensures begins { Begins circuit.old circuit.new }
     {
         let end = self.rules.end_of(below, x, symbols);
@@ -83,11 +83,11 @@ impl Block<'_> {
         requires selectors { end ≤ circuit.old.vars }
         requires widths { widths self.now.rules.now below symbols.now ≤ end }
         requires room { HasRoom (level_weight self.now.rules.now self.now.width below symbols.now) circuit.old }
-        ensures ok { IfOk result (λ r. Gives
+        ensures ok { IfOk result (λ r. GivesStep
             (level_words self.now.rules.now self.now.width self.now.fields.now below
             (end - widths self.now.rules.now below symbols.now) symbols.now next.now)
             (level_weight self.now.rules.now self.now.width below symbols.now)
-            (AreWordsOf self.now.width (length symbols.now)) circuit.old r.items circuit.new) }
+            (AreLiteralWords self.now.width (length symbols.now)) circuit.old r.items circuit.new) }
         ensures begins { Begins circuit.old circuit.new }
     {
         let mut words = Vec::new(self.alloc);
@@ -124,7 +124,7 @@ impl Block<'_> {
         requires words { All (IsWord self.now.width circuit.old.vars) words.now }
         requires selectors { x + width self.now.rules.now below symbol ≤ circuit.old.vars }
         requires room { HasRoom (slot_weight self.now.width (offered self.now.rules.now below symbol)) circuit.old }
-        ensures ok { IfOk result (λ r. Gives
+        ensures ok { IfOk result (λ r. GivesStep
             (slot_word self.now.width self.now.fields.now (shared self.now.rules.now below symbol) words.now x
             (zeros self.now.width) (offered self.now.rules.now below symbol))
             (slot_weight self.now.width (offered self.now.rules.now below symbol))
@@ -166,7 +166,7 @@ impl Block<'_> {
         requires selector { selector < circuit.old.vars }
         requires other { IsWord self.now.width circuit.old.vars other.now }
         requires room { HasRoom (production_weight self.now.width production.now + self.now.width) circuit.old }
-        ensures ok { IfOk result (λ r. Gives
+        ensures ok { IfOk result (λ r. GivesStep
             (chosen_word self.now.width self.now.fields.now children.now.arguments.now children.now.words.now
             production.now selector other.now)
             (production_weight self.now.width production.now + self.now.width)
@@ -198,7 +198,7 @@ impl Block<'_> {
         requires count { length children.now.words.now ≡ length children.now.arguments.now }
         requires words { All (IsWord self.now.width circuit.old.vars) children.now.words.now }
         requires room { HasRoom (production_weight self.now.width production.now) circuit.old }
-        ensures ok { IfOk result (λ r. Gives
+        ensures ok { IfOk result (λ r. GivesStep
             (production_word self.now.width self.now.fields.now children.now.arguments.now children.now.words.now
             production.now)
             (production_weight self.now.width production.now) (IsWord self.now.width) circuit.old r circuit.new) }

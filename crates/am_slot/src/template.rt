@@ -2,16 +2,17 @@
 
 ghost use Rattle.std.specs.Prelude.{◌≡◌, ℕ, ◌+◌, ◌^◌, ◌≤◌, ◌↔◌, Bool, false, List, ◌++◌, All, IfOk, IsTrue, OnOk};
 ghost use Rattle.std.specs.Prelude.{length, flat_map};
-ghost use Rattle.am_gate.specs.Circuit.{start, added, AreScoped, HasInputs, HasRoom, Grows, Begins};
-ghost use Rattle.am_gate.specs.Value.{Meets};
-ghost use Rattle.am_gate.specs.Build.{place_of, Follows, AreGates};
+ghost use Rattle.am_gate.specs.Circuit.{start, added, HasInputs, HasRoom, Begins};
+ghost use Rattle.am_gate.specs.Build.{Follows, Means};
+ghost use Rattle.am_gate.specs.Promises.{GivesStep};
 ghost use Rattle.std.specs.List.{range_with_len};
 ghost use Rattle.am_lit.specs.Truth.{Satisfies, value_at};
 ghost use Rattle.am_blast.specs.Words.{IsWord};
 ghost use Rattle.am_tree.specs.declared.tree.Tree.{Tree};
 ghost use Rattle.am_tree.specs.Slots.{layout_of};
 ghost use Rattle.am_slot.specs.Encoding.{IsEncoding, AreOver};
-ghost use Rattle.am_slot.specs.Template.{selectors_of, clauses_of, template, block, weight_of_block, IsDerived};
+ghost use Rattle.am_slot.specs.Template.{selectors_of, slot_clauses_of, template, block, weight_of_block};
+ghost use Rattle.am_slot.specs.Template.{IsDerivedTuple};
 ghost use Rattle.am_slot.specs.Template.{decoded, AreOutputs, ReadAs};
 
 use crate::block::Block;
@@ -86,14 +87,14 @@ impl Template {
         ensures circuit { IfOk result (λ t. Follows (template t) circuit.old tt circuit.new) }
         ensures selectors { IfOk result (λ t. circuit.new.vars ≡ 1 + selectors_of t) }
         ensures clauses { IfOk result (λ t.
-            circuit.new.clauses ≡ circuit.old.clauses ++ flat_map added (clauses_of t)) }
+            circuit.new.clauses ≡ circuit.old.clauses ++ flat_map added (slot_clauses_of t)) }
         ensures inputs { IfOk result (λ t. HasInputs (range_with_len 1 (selectors_of t)) circuit.new) }
         ensures room { OnOk result (HasRoom (2 ^ 28) circuit.new) }
 
         // both directions
         ensures derived { IfOk result (λ t. (v : ℕ → Bool) →
-            Satisfies v circuit.new.clauses → IsDerived t (decoded t v)) }
-        ensures reached { IfOk result (λ t. (ts : List Tree) → IsDerived t ts →
+            Satisfies v circuit.new.clauses → IsDerivedTuple t (decoded t v)) }
+        ensures reached { IfOk result (λ t. (ts : List Tree) → IsDerivedTuple t ts →
             (v : ℕ → Bool) × Satisfies v circuit.new.clauses × (decoded t v ≡ ts)) }
 
         ensures begins { Begins circuit.old circuit.new }
@@ -128,24 +129,20 @@ impl Template {
     /// fold, and no input. Wherever variable 0 is true and each gate's variable has its gate's value,
     /// the words read as the values of the terms of the tuple that the selectors choose. After want of
     /// memory the circuit begins with its earlier variables and clauses.
+    /// [`crate::theorems::blocks_make_their_weight`] says that its gates stand over earlier variables.
     pub fn at(&self, circuit: &mut Circuit, fields: &[WordLits]) -> Result<Words, AllocError>
         requires selectors { 1 + selectors_of self.now ≤ circuit.old.vars }
         requires over { AreOver self.now (length fields.now) }
         requires fields { All (IsWord self.now.width circuit.old.vars) fields.now }
         requires room { HasRoom (weight_of_block self.now) circuit.old }
 
-        // exactly the gates of the block, in order
-        ensures circuit { IfOk result (λ r. Follows (block self.now fields.now) circuit.old r circuit.new) }
-        ensures outputs { IfOk result (AreOutputs self.now circuit.new.vars) }
-        ensures scoped { AreScoped circuit.old.vars (block self.now fields.now (place_of circuit.old)).events }
-        ensures gates { AreGates (block self.now fields.now (place_of circuit.old)).events }
-        ensures grows { OnOk result (Grows (weight_of_block self.now) circuit.old circuit.new) }
+        ensures ok { IfOk result (λ r.
+            GivesStep (block self.now fields.now) (weight_of_block self.now) (AreOutputs self.now)
+            circuit.old r circuit.new) }
         ensures count { circuit.old.folding ≡ false →
             OnOk result (circuit.new.vars ≡ circuit.old.vars + weight_of_block self.now) }
-
-        ensures meaning { IfOk result (λ r. (v : ℕ → Bool) → IsTrue (v 0) →
-            Meets v circuit.old.vars (block self.now fields.now (place_of circuit.old)).events →
-            ReadAs self.now fields.now v (decoded self.now v) r) }
+        ensures meaning { (v : ℕ → Bool) →
+            Means v (block self.now fields.now) (ReadAs self.now fields.now v (decoded self.now v)) }
         ensures begins { Begins circuit.old circuit.new }
     {
         let block = Block {
@@ -164,7 +161,8 @@ impl Template {
     pub fn decode(&self, a: &Assignment) -> Result<Trees, AllocError>
         requires { 1 + selectors_of self.now ≤ length a.now.values }
         ensures trees { IfOk result (λ r. r ≡ decoded self.now (value_at a.now.values)) }
-        ensures derived { Satisfies (value_at a.now.values) (clauses_of self.now) → IfOk result (IsDerived self.now) }
+        ensures derived { Satisfies (value_at a.now.values) (slot_clauses_of self.now) → IfOk result
+            (IsDerivedTuple self.now) }
     {
         let choices = Choices {
             alloc: self.alloc,
@@ -199,7 +197,7 @@ impl Template {
 
     /// The clauses of all slots.
     fn clauses(&self) -> Result<Clauses, AllocError>
-        ensures { IfOk result (λ r. r ≡ clauses_of self.now) }
+        ensures { IfOk result (λ r. r ≡ slot_clauses_of self.now) }
     {
         let mut clauses = Clauses::new(self.alloc);
         let asked = roots(self.alloc, self.starts.as_slice())?;

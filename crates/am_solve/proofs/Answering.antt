@@ -12,7 +12,7 @@ use Rattle.am_chain.proofs.Laws.{length-replay}
 use Rattle.am_trail.specs.Trails.{Assigned}
 use Rattle.am_watch.specs.Watching.{Watched}
 use Rattle.am_solve.specs.declared.answer.Answer.TheVariants.{Spent}
-use Rattle.am_solve.specs.Answers.{IsAnswer}
+use Rattle.am_solve.specs.Answers.{IsSolverAnswer}
 use Rattle.am_solve.specs.inside.Searching.{IsSearching, KeepsTo}
 
 -- what holds of each clause of two lists holds of those of the second
@@ -23,7 +23,7 @@ last_all P xs ys h = λ k d lt.
 module _ (given learnt : List (List ℕ)) (vars : ℕ) (log : List Chain) (watch : Watched) (t : Assigned)
     (s : IsSearching given learnt vars log watch t) where
   -- a search that has learnt as many clauses as its limit may answer that it is spent
-  pub spent_answer : (limit : ℕ) → length learnt ≡ limit → IsAnswer given vars limit (Spent log)
+  pub spent_answer : (limit : ℕ) → length learnt ≡ limit → IsSolverAnswer given vars limit (Spent log)
   spent_answer limit all = (
     omega (arith, all, length-replay given [] learnt log s.derives),
     record {

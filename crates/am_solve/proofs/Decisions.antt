@@ -15,7 +15,7 @@ use Rattle.am_chain.specs.declared.chain.Step.{Step}
 use Rattle.am_trail.specs.declared.entry.Entry.{Entry}
 use Rattle.am_trail.specs.Trails.{literals}
 use Rattle.am_chain.specs.inside.Marks.{mark_at}
-use Rattle.am_solve.specs.inside.Marking.{IsDecided, IsKept, IsMarkedMore, IsResolved, IsUnique}
+use Rattle.am_solve.specs.inside.Marking.{AreKeptLiterals, IsMarkedMore, IsResolved, IsUnique, OpposesDecision}
 use Rattle.am_solve.proofs.Counting.{marked_in}
 use Rattle.am_solve.proofs.Deriving.{IsApart}
 use Rattle.am_solve.proofs.Levels.{reaches}
@@ -54,7 +54,7 @@ pub unique_decided : (clauses : List (List ℕ)) (es : List Entry) (marks : List
     (start : ℕ) (kept : List ℕ)
     → IsResolved clauses es marks first steps 0 → length marks ≡ length es
     → ((k : ℕ) (d : Entry) → start < k → k < length es → IsSome (get_or es k d).reason)
-    → All (IsSettled (take start (literals es))) clauses → IsKept (literals es) start marks kept
+    → All (IsSettled (take start (literals es))) clauses → AreKeptLiterals (literals es) start marks kept
     → IsUnique clauses (literals es) start first marks kept steps start
 unique_decided clauses es marks first steps start kept r long implied settled keeps =
     let d : Entry = record { literal = 0; level = 0; reason = None } in
@@ -82,7 +82,7 @@ unique_decided clauses es marks first steps start kept r long implied settled ke
 
 -- the literal at a place that was decided
 pub decided_at : (es : List Entry) (k : ℕ) → k < length es → ((d : Entry) → (get_or es k d).reason ≡ None)
-    → IsDecided es (opposite_of (get_or (literals es) k 0))
+    → OpposesDecision es (opposite_of (get_or (literals es) k 0))
 decided_at es k lt none =
     let d : Entry = record { literal = 0; level = 0; reason = None } in (
       get_or es k d,
@@ -95,15 +95,15 @@ decided_at es k lt none =
 pub kept_decided : (clauses : List (List ℕ)) (es : List Entry) (marks : List Bool) (first : ℕ) (steps : List Step)
     (start : ℕ) (kept : List ℕ)
     → IsResolved clauses es marks first steps 0 → length marks ≡ length es
-    → IsKept (literals es) start marks kept → All (IsDecided es) kept
+    → AreKeptLiterals (literals es) start marks kept → All (OpposesDecision es) kept
 kept_decided clauses es marks first steps start kept r long keeps = λ j d lt.
     let k = keeps.has (get_or kept j d) (Contains-get_or kept j d lt) in
     rw k.3 (decided_at es k.0 (omega (arith, marked_in marks k.0 k.2)) (λ e. r.decided k.0 e (omega arith) k.2))
 
 -- the kept literals of one more place
-module _ (row : List ℕ) (marks : List Bool) (kept : List ℕ) (i : ℕ) (h : IsKept row i marks kept) where
+module _ (row : List ℕ) (marks : List Bool) (kept : List ℕ) (i : ℕ) (h : AreKeptLiterals row i marks kept) where
   -- a place without a mark adds none
-  pub kept_over : mark_at marks i ≡ false → IsKept row (i + 1) marks kept
+  pub kept_over : mark_at marks i ≡ false → AreKeptLiterals row (i + 1) marks kept
   kept_over off = record {
     has = λ m there. let k = h.has m there in (k.0, omega (arith, k.1), k.2, k.3);
     gives = λ k lt on. elim (same_or k i) [
@@ -114,7 +114,7 @@ module _ (row : List ℕ) (marks : List Bool) (kept : List ℕ) (i : ℕ) (h : I
 
   -- a marked place adds the opposite of its literal
   pub kept_more : (l : ℕ) → mark_at marks i ≡ true → l ≡ opposite_of (get_or row i 0)
-      → IsKept row (i + 1) marks (kept ++ l ∷ [])
+      → AreKeptLiterals row (i + 1) marks (kept ++ l ∷ [])
   kept_more l on is = record {
     has = λ m there. elim (Contains-push_cases kept l m there) [
       | inl old ↦ let k = h.has m old in (k.0, omega (arith, k.1), k.2, k.3)
@@ -126,7 +126,7 @@ module _ (row : List ℕ) (marks : List Bool) (kept : List ℕ) (i : ℕ) (h : I
     ];
   }
 
-pub kept_none : (row : List ℕ) (marks : List Bool) → IsKept row 0 marks []
+pub kept_none : (row : List ℕ) (marks : List Bool) → AreKeptLiterals row 0 marks []
 kept_none row marks = record {
   has = λ m there. absurd (Contains-nil m there);
   gives = λ k lt on. absurd (omega arith);

@@ -18,7 +18,7 @@ use Rattle.am_watch.proofs.Laws.{Contains-take}
 use native.Mathlib.Decide.{dec_lt}
 use Prim.{yes, no}
 use Rattle.am_chain.specs.inside.Marks.{mark_at}
-use Rattle.am_solve.specs.inside.Marking.{IsMarkedMore, IsReached, IsDerived, IsResolved}
+use Rattle.am_solve.specs.inside.Marking.{IsMarkedMore, IsReachedClause, IsDerivedDownTo, IsResolved}
 use Rattle.am_solve.proofs.Resolving.{chain_longer, pivot_there}
 use Rattle.am_lit.proofs.Laws.{opposite_of-opposite_of, variable_of-opposite_of}
 
@@ -50,7 +50,7 @@ in_take row n k lt inside =
 module _ (clauses : List (List ℕ)) (row : List ℕ) (consistent : IsConsistent row) (apart : IsApart row)
     (marks : List Bool) (first : ℕ) (steps : List Step) (i : ℕ) where
   -- a marked place is resolved on
-  module _ (new : List Bool) (r : ℕ) (d : IsReached clauses row marks first steps) (inside : i < length row)
+  module _ (new : List Bool) (r : ℕ) (d : IsReachedClause clauses row marks first steps) (inside : i < length row)
       (in_marks : i < length marks) (on : mark_at marks i ≡ true) (lt : r < length clauses)
       (rises : IsStrictlyIncreasing (get_or clauses r []))
       (forced : IsForcedBy (take i row) (get_or clauses r []) (get_or row i 0))
@@ -148,7 +148,7 @@ module _ (clauses : List (List ℕ)) (row : List ℕ) (consistent : IsConsistent
     abbrev longer : List Step
     longer = steps ++ record { variable = variable_of l; clause = r } ∷ []
 
-    pub reached_step : IsReached clauses row new first longer
+    pub reached_step : IsReachedClause clauses row new first longer
     reached_step = record {
       current = next;
       derived = chain_longer clauses (get_or clauses first []) d.current steps r (variable_of l) d.derived lt pivot;
@@ -199,11 +199,12 @@ module _ (clauses : List (List ℕ)) (row : List ℕ) (consistent : IsConsistent
 -- a resolved place, while none from there on is marked
 pub derived_step : (clauses : List (List ℕ)) (row : List ℕ) → IsConsistent row → IsApart row
     → (marks : List Bool) (first : ℕ) (steps : List Step) (i : ℕ) (new : List Bool) (r : ℕ)
-    → IsDerived clauses row marks first steps (i + 1) → i < length row → i < length marks → mark_at marks i ≡ true
+    → IsDerivedDownTo clauses row marks first steps (i + 1) → i < length row → i < length marks → mark_at marks i ≡ true
     → r < length clauses
     → IsStrictlyIncreasing (get_or clauses r []) → IsForcedBy (take i row) (get_or clauses r []) (get_or row i 0)
     → IsMarkedMore row (set marks i false) new (get_or clauses r []) (get_or row i 0)
-    → IsDerived clauses row new first (steps ++ record { variable = variable_of (get_or row i 0); clause = r } ∷ []) i
+    → IsDerivedDownTo clauses row new first (steps ++ record { variable = variable_of (get_or row i 0); clause = r } ∷
+    []) i
 derived_step clauses row consistent apart marks first steps i new r d inside in_marks on lt rises forced more = record {
   reached =
       reached_step clauses row consistent apart marks first steps i new r d.reached inside in_marks on lt rises

@@ -9,7 +9,7 @@ use Rattle.std.proofs.lemmas.List.Elements.{All-contains, All-push, Contains-get
 use Rattle.std.proofs.lemmas.List.Elements.{Contains-append_cases, Contains-push, Contains-push_cases}
 use Rattle.am_lit.specs.Literal.{variable_of, opposite_of}
 use Rattle.am_lit.specs.Clause.{IsNormal}
-use Rattle.am_lit.specs.UnitRow.{IsNew, IsOver}
+use Rattle.am_lit.specs.UnitRow.{IsClauseOver, IsNew}
 use Rattle.am_chain.specs.declared.chain.Step.{Step}
 use Rattle.am_chain.specs.Chains.{clause_of}
 use Rattle.am_trail.specs.declared.entry.Entry.{Entry}
@@ -17,7 +17,7 @@ use Rattle.am_trail.specs.Trails.{literals, Assigned, IsTrail, upto}
 use Rattle.am_lit.proofs.Laws.{other_literal}
 use Rattle.am_watch.specs.Watching.{Extends, IsFalseAt}
 use Rattle.am_trail.proofs.Laws.{consistent, entry_of, from_upto}
-use Rattle.am_solve.specs.inside.Marking.{IsAnalysed, IsDecided}
+use Rattle.am_solve.specs.inside.Marking.{IsAnalysedConflict, OpposesDecision}
 use Rattle.am_solve.specs.inside.Searching.{KeepsTo, SettledBelow}
 use Rattle.am_solve.proofs.Marked.{apart_of, none_there}
 use Rattle.am_solve.proofs.Newness.{low_false, settled_after, unique_new}
@@ -46,7 +46,7 @@ normal_false t trail c rises untrue = record {
 }
 
 module _ (clauses : List (List ℕ)) (t : Assigned) (first : ℕ) (kept : List ℕ) (steps : List Step) (place : ℕ)
-    (a : IsAnalysed clauses t first kept steps place) (trail : IsTrail t) where
+    (a : IsAnalysedConflict clauses t first kept steps place) (trail : IsTrail t) where
   abbrev left : ℕ
   left = opposite_of (get_or (literals t.entries) place 0)
 
@@ -124,14 +124,14 @@ module _ (clauses : List (List ℕ)) (t : Assigned) (first : ℕ) (kept : List �
     -- a clause of opposites of decided literals is over the variables that are decided
     pub clause_over : (base : List ℕ)
         → ((e : Entry) → Contains t.entries e → e.reason ≡ None → Contains base (variable_of e.literal))
-        → All (IsDecided t.entries) kept → IsDecided t.entries left
-        → IsOver base c
+        → All (OpposesDecision t.entries) kept → OpposesDecision t.entries left
+        → IsClauseOver base c
     clause_over base decided all_kept one = λ k d lt.
         elim (from (get_or c k d) (Contains-get_or c k d lt)) [
-          | inl h ↦ over (get_or c k d) (All-contains (IsDecided t.entries) kept (get_or c k d) all_kept h)
+          | inl h ↦ over (get_or c k d) (All-contains (OpposesDecision t.entries) kept (get_or c k d) all_kept h)
           | inr e ↦ rw e (over left one)
         ] where
-          over : (m : ℕ) → IsDecided t.entries m → Contains base (variable_of m)
+          over : (m : ℕ) → OpposesDecision t.entries m → Contains base (variable_of m)
           over m h = rw (h.3, (variable_of-opposite_of h.0.literal)) (decided h.0 h.1 h.2)
 
 -- the level to go back to is at most the current one
@@ -166,10 +166,10 @@ keeps_back base learnt es j k = record {
 }
 
 -- a learnt clause over the list keeps to it
-pub keeps_learn : (base : List ℕ) (learnt : List (List ℕ)) (es : List Entry) (c : List ℕ) → IsOver base c
+pub keeps_learn : (base : List ℕ) (learnt : List (List ℕ)) (es : List Entry) (c : List ℕ) → IsClauseOver base c
     → KeepsTo base learnt es
     → KeepsTo base (learnt ++ c ∷ []) es
 keeps_learn base learnt es c over k = record {
-  over = All-push (IsOver base) learnt c k.over over;
+  over = All-push (IsClauseOver base) learnt c k.over over;
   decided = k.decided;
 }

@@ -8,7 +8,7 @@ use Rattle.am_lit.specs.Literal.{opposite_of}
 use Rattle.am_lit.proofs.Laws.{Contains-cons_cases, Contains-nil}
 use Rattle.am_lit.specs.UnitRow.{IsConsistent, IsSettled}
 use Rattle.am_trail.specs.declared.entry.Entry.{Entry}
-use Rattle.am_trail.specs.Trails.{literals, IsNext, Leads, upto}
+use Rattle.am_trail.specs.Trails.{literals, IsNextEntry, Leads, upto}
 use Rattle.am_trail.proofs.Laws.{next_at, rises_to}
 use Rattle.am_watch.proofs.Laws.{Contains-take}
 use Rattle.am_trail.proofs.Laws.{level_le}
@@ -18,7 +18,7 @@ use native.Mathlib.Decide.{dec_lt}
 use Prim.{yes, no}
 use Rattle.am_lit.proofs.Laws.{opposite_of-opposite_of}
 
-implied_by : (from : ℕ) (e : Entry) (level : ℕ) → IsNext from e → level ≤ from → e.level ≤ level → IsSome e.reason
+implied_by : (from : ℕ) (e : Entry) (level : ℕ) → IsNextEntry from e → level ≤ from → e.level ≤ level → IsSome e.reason
 implied_by from e level (inl n) lo hi = absurd (omega (arith, n.1))
 implied_by from e level (inr n) lo hi = n.0
 
@@ -54,7 +54,7 @@ reaches row c start consistent settled false' =
       taken : (row : List ℕ) (n : ℕ) → All (Contains row) (take n row)
       taken row n = λ k d lt. Contains-take n row (get_or (take n row) k d) (Contains-get_or (take n row) k d lt)
 
-implied_next : (from : ℕ) (x : Entry) (to : ℕ) → IsNext from x → x.level ≤ to → to ≤ from → IsSome x.reason
+implied_next : (from : ℕ) (x : Entry) (to : ℕ) → IsNextEntry from x → x.level ≤ to → to ≤ from → IsSome x.reason
 implied_next from x to (inl n) hi le = absurd (omega (arith, n.1))
 implied_next from x to (inr n) hi le = n.0
 
@@ -68,6 +68,6 @@ all_implied from (x ∷ xs) to h le e there =
       | inl same ↦ rw (← same) here
       | inr t ↦ all_implied x.level xs to h.1 (below_level from x to h.0 le) e t
     ] where
-      below_level : (from : ℕ) (x : Entry) (to : ℕ) → IsNext from x → to ≤ from → to ≤ x.level
+      below_level : (from : ℕ) (x : Entry) (to : ℕ) → IsNextEntry from x → to ≤ from → to ≤ x.level
       below_level from x to (inl n) le = omega (arith, n.1)
       below_level from x to (inr n) le = omega (arith, n.1)

@@ -13,7 +13,7 @@ use Rattle.am_chain.specs.Chains.{clause_of}
 use Rattle.am_chain.proofs.Laws.{replay-append}
 use Rattle.am_trail.specs.declared.entry.Entry.{Entry}
 use Rattle.am_trail.specs.Trails.{literals, Assigned, IsTrail, decided, returned, upto}
-use Rattle.am_watch.specs.Watching.{Extends, Holds, IsExplained, IsReason, empty_trail, Watched}
+use Rattle.am_watch.specs.Watching.{Extends, WatchesHold, IsExplained, IsReason, empty_trail, Watched}
 use Rattle.am_watch.proofs.Laws.{explained_more, explained_still, holds_decide, holds_back}
 use Rattle.am_trail.proofs.Laws.{upto-take}
 use Rattle.am_solve.specs.inside.Searching.{IsSearching, SettledBelow}
@@ -47,7 +47,7 @@ module _ (given learnt : List (List ℕ)) (vars : ℕ) (log : List Chain) (watch
 
   -- propagation
   pub search_extends : (watch' : Watched) (u : Assigned) → Extends (given ++ learnt) t u
-      → Holds watch' (given ++ learnt) u
+      → WatchesHold watch' (given ++ learnt) u
       → IsSearching given learnt vars log watch' u
   search_extends watch' u x holds = record {
     width = x.vars ∙ s.width;
@@ -88,7 +88,8 @@ module _ (given learnt : List (List ℕ)) (vars : ℕ) (log : List Chain) (watch
 
   -- a clause is learnt, at the level to which the search goes back: it is one literal at level 0,
   -- or two of its literals have no value below that level
-  pub search_learn : (c : List ℕ) (chain : Chain) (watch' : Watched) → Holds watch' ((given ++ learnt) ++ c ∷ []) t
+  pub search_learn : (c : List ℕ) (chain : Chain) (watch' : Watched) → WatchesHold watch' ((given ++ learnt) ++ c ∷ [])
+      t
       → IsNormal vars c
       → clause_of (given ++ learnt) chain ≡ Ok c → IsNew (given ++ learnt) c → length chain.steps ≤ vars
       → SettledBelow ((given ++ learnt) ++ c ∷ []) t.entries t.level
@@ -121,7 +122,7 @@ pub variables_below : (vars : ℕ) (c : List ℕ) → IsNormal vars c → All (�
 variables_below vars c n = n.below
 
 -- a search that has learnt and decided nothing
-pub search_start : (given : List (List ℕ)) (vars : ℕ) (watch : Watched) → Holds watch given (empty_trail vars)
+pub search_start : (given : List (List ℕ)) (vars : ℕ) (watch : Watched) → WatchesHold watch given (empty_trail vars)
     → All (IsNormal vars) given
     → IsSearching given [] vars [] watch (empty_trail vars)
 search_start given vars watch holds normal = record {

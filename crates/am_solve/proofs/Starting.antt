@@ -14,7 +14,7 @@ use Rattle.am_watch.specs.Watching.{IsExplained, IsReason, clause_at}
 use Rattle.am_lit.proofs.Laws.{Contains-nil}
 use Rattle.am_trail.proofs.Laws.{consistent}
 use Rattle.am_chain.specs.inside.Marks.{mark_at}
-use Rattle.am_solve.specs.inside.Marking.{IsMarkedMore, IsReached, IsDerived, IsCounted}
+use Rattle.am_solve.specs.inside.Marking.{IsMarkedMore, IsReachedClause, IsDerivedDownTo, IsCounted}
 use Rattle.am_solve.proofs.Counting.{marked_in, some_counted}
 use Rattle.am_solve.proofs.Deriving.{IsApart, not_true}
 use Rattle.am_lit.proofs.Laws.{variable_of-opposite_of}
@@ -37,7 +37,7 @@ module _ (clauses : List (List ℕ)) (row : List ℕ) (old marks : List Bool) (f
     (off : (k : ℕ) → mark_at old k ≡ false)
     (absent : (m : ℕ) → Contains (get_or clauses first []) m → m ≢ besides) where
   -- before any step the clause itself is marked
-  pub reached_first : IsStrictlyIncreasing (get_or clauses first []) → IsReached clauses row marks first []
+  pub reached_first : IsStrictlyIncreasing (get_or clauses first []) → IsReachedClause clauses row marks first []
   reached_first rises = record {
     current = get_or clauses first [];
     derived = refl;
@@ -54,7 +54,7 @@ module _ (clauses : List (List ℕ)) (row : List ℕ) (old marks : List Bool) (f
 
   -- and no place after the row is
   pub derived_first : IsStrictlyIncreasing (get_or clauses first []) → length marks ≡ length row
-      → IsDerived clauses row marks first [] (length row)
+      → IsDerivedDownTo clauses row marks first [] (length row)
   derived_first rises long = record {
     reached = reached_first rises;
     above = λ k le. not_true (mark_at marks k) (λ on. let lt = marked_in marks k on in omega arith);
@@ -76,8 +76,8 @@ module _ (clauses : List (List ℕ)) (row : List ℕ) (old marks : List Bool) (f
 -- places that aren't marked are passed over
 pub derived_down : (clauses : List (List ℕ)) (row : List ℕ) (marks : List Bool) (first : ℕ) (steps : List Step)
     (i p : ℕ)
-    → IsDerived clauses row marks first steps i → p < i → ((k : ℕ) → p < k → mark_at marks k ≡ false)
-    → IsDerived clauses row marks first steps (p + 1)
+    → IsDerivedDownTo clauses row marks first steps i → p < i → ((k : ℕ) → p < k → mark_at marks k ≡ false)
+    → IsDerivedDownTo clauses row marks first steps (p + 1)
 derived_down clauses row marks first steps i p d lt above = record {
   reached = d.reached;
   above = λ k le. above k (omega arith);

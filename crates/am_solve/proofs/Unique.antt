@@ -16,7 +16,7 @@ use Rattle.am_chain.specs.Chains.{clause_of}
 use native.Mathlib.Decide.{dec_lt}
 use Prim.{yes, no}
 use Rattle.am_chain.specs.inside.Marks.{mark_at}
-use Rattle.am_solve.specs.inside.Marking.{IsCounted, IsDerived, IsReached, IsUnique}
+use Rattle.am_solve.specs.inside.Marking.{IsCounted, IsDerivedDownTo, IsReachedClause, IsUnique}
 use Rattle.am_solve.proofs.Counting.{counted_less, marked_in, some_counted}
 
 -- rising lists with the same elements are one list
@@ -62,7 +62,7 @@ same_rising xs ys p q f g = same_pairs xs ys (AllPairs-from_increasing xs p) (Al
 pub unique_of : (clauses : List (List ℕ)) (row : List ℕ) (start first : ℕ) (marks : List Bool) (kept : List ℕ)
     (steps : List Step) (place : ℕ)
     → start ≤ place → mark_at marks place ≡ true → length marks ≡ length row
-    → IsCounted row start marks kept 1 → IsDerived clauses row marks first steps (place + 1)
+    → IsCounted row start marks kept 1 → IsDerivedDownTo clauses row marks first steps (place + 1)
     → IsUnique clauses row start first marks kept steps place
 unique_of clauses row start first marks kept steps place high here long counted d = record {
   high = high;
@@ -105,7 +105,7 @@ module _ (clauses : List (List ℕ)) (row : List ℕ) (start first : ℕ) (marks
 
 -- the steps that leave no place marked come to the empty clause
 pub chain_empties : (clauses : List (List ℕ)) (row : List ℕ) (marks : List Bool) (first : ℕ) (steps : List Step)
-    → IsReached clauses row marks first steps → first < length clauses
+    → IsReachedClause clauses row marks first steps → first < length clauses
     → ((k : ℕ) → k < length row → mark_at marks k ≡ true → ⊥)
     → clause_of clauses (record { first = first; steps = steps }) ≡ Ok []
 chain_empties clauses row marks first steps d lt none =

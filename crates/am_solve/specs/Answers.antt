@@ -4,7 +4,7 @@ use Rattle.am_lit.specs.Clause.{IsNormal}
 use Rattle.am_lit.specs.Truth.{Satisfies, value_at}
 use Rattle.am_lit.specs.UnitRow.{AllNew}
 use Rattle.am_chain.specs.declared.chain.Chain.{Chain}
-use Rattle.am_chain.specs.Replay.{Derives, Refutes}
+use Rattle.am_chain.specs.Replay.{DerivesClauses, Refutes}
 use Rattle.am_solve.specs.declared.answer.Answer.{Answer}
 use Rattle.am_solve.specs.declared.answer.Answer.TheVariants.{Sat, Unsat, Spent}
 
@@ -16,20 +16,20 @@ ChainsAreShort vars log = All (λ chain. length chain.steps ≤ vars) log
 -- of the chains before it
 pub record IsProgress (clauses : List (List ℕ)) (vars : ℕ) (log : List Chain) : Type 0 where
   pub learnt : List (List ℕ)
-  pub derives : Derives clauses log learnt
+  pub derives : DerivesClauses clauses log learnt
   pub normal : All (IsNormal vars) learnt
   pub new : AllNew clauses learnt
 
 -- what each answer says
-abbrev pub IsAnswer : List (List ℕ) → ℕ → ℕ → Answer → Type 0
-IsAnswer clauses vars limit (Sat assignment) =
+abbrev pub IsSolverAnswer : List (List ℕ) → ℕ → ℕ → Answer → Type 0
+IsSolverAnswer clauses vars limit (Sat assignment) =
     (length assignment.values ≡ vars) × Satisfies (value_at assignment.values) clauses
-IsAnswer clauses vars limit (Unsat log) = Refutes clauses log × (length log ≤ limit) × ChainsAreShort vars log
-IsAnswer clauses vars limit (Spent log) =
+IsSolverAnswer clauses vars limit (Unsat log) = Refutes clauses log × (length log ≤ limit) × ChainsAreShort vars log
+IsSolverAnswer clauses vars limit (Spent log) =
     (length log ≡ limit) × IsProgress clauses vars log × ChainsAreShort vars log
 
 -- the limit was reached
-abbrev pub IsSpent : Answer → Type 0
-IsSpent (Sat assignment) = ⊥
-IsSpent (Unsat log) = ⊥
-IsSpent (Spent log) = Unit {0}
+abbrev pub IsSpentAnswer : Answer → Type 0
+IsSpentAnswer (Sat assignment) = ⊥
+IsSpentAnswer (Unsat log) = ⊥
+IsSpentAnswer (Spent log) = Unit {0}

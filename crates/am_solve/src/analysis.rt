@@ -11,7 +11,8 @@ ghost use Rattle.am_watch.specs.Watching.{IsExplained};
 ghost use Rattle.am_chain.specs.inside.Marks.{mark_at};
 ghost use Rattle.am_solve.specs.inside.Marking.{IsUnique, LeadsToOne};
 ghost use Rattle.am_solve.specs.inside.Searching.{IsConflict, IsFalseClause, SettledBelow};
-ghost use Rattle.am_solve.specs.inside.Searches.{CanResolveAt, Counts, FitsTrail, HasResolvedAt, IsAnalysis, MarksMore};
+ghost use Rattle.am_solve.specs.inside.Searches.{CanResolveAt, CountsMarks, FitsTrail, HasResolvedAt, IsAnalysis};
+ghost use Rattle.am_solve.specs.inside.Searches.{MarksMore};
 
 use crate::marks::Marks;
 use am_chain::{Step, Steps};
@@ -29,10 +30,10 @@ pub fn mark_all(
 ) -> Result<(), AllocError>
     requires len { length marks.old.places.items ≡ length trail.now.entries }
     requires untrue { All (λ m. m ≢ besides → Contains (literals trail.now.entries) (opposite_of m)) clause.now }
-    requires counted { Counts (literals trail.now.entries) marks.old }
+    requires counted { CountsMarks (literals trail.now.entries) marks.old }
     ensures start { marks.new.start ≡ marks.old.start }
     ensures more { OnOk result (MarksMore (literals trail.now.entries) marks.old marks.new clause.now besides) }
-    ensures counted { OnOk result (Counts (literals trail.now.entries) marks.new) }
+    ensures counted { OnOk result (CountsMarks (literals trail.now.entries) marks.new) }
     ensures grows { OnOk result (marks.old.count ≤ marks.new.count) }
 {
     trail.known();
@@ -75,7 +76,7 @@ pub fn resolve_at(
 
 /// The last marked place before a place.
 pub fn last_marked(marks: &Marks, trail: &Trail, before: u32) -> u32
-    requires counted { Counts (literals trail.now.entries) marks.now }
+    requires counted { CountsMarks (literals trail.now.entries) marks.now }
     requires some { 0 < marks.now.count }
     requires before { before ≤ length marks.now.places.items }
     requires above { (k : ℕ) → before ≤ k → mark_at marks.now.places.items k ≡ false }

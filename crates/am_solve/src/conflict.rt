@@ -5,7 +5,7 @@ ghost use Rattle.am_chain.specs.declared.chain.Chain.{Chain};
 ghost use Rattle.am_chain.specs.Replay.{Refutes};
 ghost use Rattle.am_trail.specs.Trails.{literals};
 ghost use Rattle.am_solve.specs.Answers.{ChainsAreShort};
-ghost use Rattle.am_solve.specs.inside.Marking.{IsDecided, WasDecided};
+ghost use Rattle.am_solve.specs.inside.Marking.{OpposesDecision, WasDecided};
 ghost use Rattle.am_solve.specs.inside.Searching.{IsFalseClause};
 ghost use Rattle.am_solve.specs.inside.Searches.{CanChoose, IsAnalysis, Searches, StaysOver};
 
@@ -32,7 +32,7 @@ impl Search {
         requires number { conflict < length (given.now ++ self.now.learnt) }
         requires untrue { IsFalseClause (given.now ++ self.now.learnt) self.now.trail.entries conflict }
         ensures analysed { IfOk result (IsAnalysis (given.now ++ self.now.learnt) self.now.trail conflict) }
-        ensures kept { IfOk result (λ f. over_base ≡ true → All (IsDecided self.now.trail.entries) f.kept.items) }
+        ensures kept { IfOk result (λ f. over_base ≡ true → All (OpposesDecision self.now.trail.entries) f.kept.items) }
         ensures left { IfOk result (λ f. over_base ≡ true → WasDecided self.now.trail.entries f.place) }
     {
         if over_base {

@@ -5,7 +5,7 @@ ghost use Rattle.std.specs.List.Sorted.{IsStrictlyIncreasing};
 ghost use Rattle.am_lit.specs.Clause.{IsNormal};
 ghost use Rattle.am_trail.specs.Trails.{literals};
 ghost use Rattle.am_watch.specs.Watching.{IsExplained};
-ghost use Rattle.am_solve.specs.inside.Marking.{IsDecided, IsKept, WasDecided};
+ghost use Rattle.am_solve.specs.inside.Marking.{AreKeptLiterals, OpposesDecision, WasDecided};
 ghost use Rattle.am_solve.specs.inside.Searching.{IsConflict, IsFalseClause, SettledBelow};
 ghost use Rattle.am_solve.specs.inside.Searches.{FitsTrail, HasResolved, IsAnalysis};
 
@@ -94,7 +94,8 @@ pub fn marked_before(
 ) -> Result<Vec<Lit>, AllocError>
     requires start { start ≤ length trail.now.entries }
     requires len { length marks.now.places.items ≡ length trail.now.entries }
-    ensures { IfOk result (λ kept. IsKept (literals trail.now.entries) start marks.now.places.items kept.items) }
+    ensures { IfOk result (λ kept.
+        AreKeptLiterals (literals trail.now.entries) start marks.now.places.items kept.items) }
 {
     let mut kept = Vec::new(alloc);
     for i in 0..start {
@@ -120,7 +121,7 @@ pub fn analyse_decided(
     requires explained { IsExplained 0 (given.now ++ learnt.now) trail.now.entries }
     requires below { SettledBelow (given.now ++ learnt.now) trail.now.entries trail.now.level }
     ensures analysed { IfOk result (IsAnalysis (given.now ++ learnt.now) trail.now conflict) }
-    ensures kept { IfOk result (λ f. All (IsDecided trail.now.entries) f.kept.items) }
+    ensures kept { IfOk result (λ f. All (OpposesDecision trail.now.entries) f.kept.items) }
     ensures left { IfOk result (λ f. WasDecided trail.now.entries f.place) }
 {
     trail.known();

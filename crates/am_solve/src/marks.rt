@@ -5,7 +5,7 @@ ghost use Rattle.std.specs.Prelude.{OnOk, IfOk};
 ghost use Rattle.am_lit.specs.Literal.{opposite_of};
 ghost use Rattle.am_trail.specs.Trails.{literals};
 ghost use Rattle.am_chain.specs.inside.Marks.{mark_at};
-ghost use Rattle.am_solve.specs.inside.Searches.{Counts};
+ghost use Rattle.am_solve.specs.inside.Searches.{CountsMarks};
 
 use am_lit::Lit;
 use am_trail::Trail;
@@ -27,7 +27,7 @@ impl Marks {
         ensures len { IfOk result (λ a. length a.places.items ≡ len) }
         ensures none { IfOk result (λ a. (k : ℕ) → mark_at a.places.items k ≡ false) }
         ensures start { IfOk result (λ a. a.start ≡ start) }
-        ensures counted { IfOk result (λ a. (row : List ℕ) → Counts row a) }
+        ensures counted { IfOk result (λ a. (row : List ℕ) → CountsMarks row a) }
     {
         Ok(Marks {
             places: vec![in alloc; false; len as usize]?,
@@ -41,11 +41,11 @@ impl Marks {
     pub fn mark(&mut self, trail: &Trail, place: u32, l: Lit) -> Result<(), AllocError>
         requires place { place < length self.old.places.items }
         requires literal { l ≡ opposite_of (slice_index (literals trail.now.entries) place) }
-        requires counted { Counts (literals trail.now.entries) self.old }
+        requires counted { CountsMarks (literals trail.now.entries) self.old }
         ensures start { self.new.start ≡ self.old.start }
         ensures places { OnOk result (self.new.places.items ≡ slice_set self.old.places.items place true) }
         ensures grows { OnOk result (self.old.count ≤ self.new.count) }
-        ensures counted { OnOk result (Counts (literals trail.now.entries) self.new) }
+        ensures counted { OnOk result (CountsMarks (literals trail.now.entries) self.new) }
     {
         trail.known();
         let index = place as usize;
@@ -66,12 +66,12 @@ impl Marks {
         requires place { place < length self.old.places.items }
         requires high { self.old.start ≤ place }
         requires marked { mark_at self.old.places.items place ≡ true }
-        requires counted { Counts (literals trail.now.entries) self.old }
+        requires counted { CountsMarks (literals trail.now.entries) self.old }
         ensures start { self.new.start ≡ self.old.start }
         ensures kept { self.new.kept.items ≡ self.old.kept.items }
         ensures places { self.new.places.items ≡ slice_set self.old.places.items place false }
         ensures count { self.new.count + 1 ≡ self.old.count }
-        ensures counted { Counts (literals trail.now.entries) self.new }
+        ensures counted { CountsMarks (literals trail.now.entries) self.new }
     {
         trail.known();
         let index = place as usize;

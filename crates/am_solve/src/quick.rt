@@ -3,7 +3,7 @@
 ghost use Rattle.std.specs.Prelude.{◌≡◌, ◌+◌, ◌^◌, ◌<◌, ◌≤◌, List, ℕ, All, length, IsTrue, IfOk, IfSome};
 ghost use Rattle.am_lit.specs.Truth.{Satisfies, clause_value, literal_value, value_at};
 ghost use Rattle.am_chain.specs.Replay.{Refutes};
-ghost use Rattle.am_solve.specs.Answers.{ChainsAreShort, IsAnswer, IsSpent};
+ghost use Rattle.am_solve.specs.Answers.{ChainsAreShort, IsSolverAnswer, IsSpentAnswer};
 
 use crate::answer::Answer;
 use am_chain::{Log, refutes};
@@ -81,8 +81,8 @@ pub fn quick_answer(
 ) -> Result<Option<Answer>, AllocError>
     requires most { limit ≤ 2 ^ 30 }
     requires clauses { length formula.now.clauses < 2 ^ 31 }
-    ensures answer { IfOk result (λ o. IfSome o (IsAnswer formula.now.clauses formula.now.vars limit)) }
-    ensures found { IfOk result (λ o. IfSome o (λ a. ¬ (IsSpent a))) }
+    ensures answer { IfOk result (λ o. IfSome o (IsSolverAnswer formula.now.clauses formula.now.vars limit)) }
+    ensures found { IfOk result (λ o. IfSome o (λ a. ¬ (IsSpentAnswer a))) }
 {
     match find(alloc, formula, limit / 2)? {
         Found::Model(values) => {

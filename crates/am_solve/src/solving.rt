@@ -3,7 +3,7 @@
 ghost use Rattle.std.specs.Prelude.{◌≡◌, ◌+◌, ◌^◌, ◌<◌, ◌≤◌, ◌↔◌, ℕ, List, [], All, length, IfOk, IfSome, IsTrue, true};
 ghost use Rattle.std.specs.List.Sorted.{IsStrictlyIncreasing};
 ghost use Rattle.am_lit.specs.UnitRow.{Determines, IsUnitRow, MeetsConflict};
-ghost use Rattle.am_solve.specs.Answers.{IsAnswer, IsSpent};
+ghost use Rattle.am_solve.specs.Answers.{IsSolverAnswer, IsSpentAnswer};
 
 use crate::answer::Answer;
 use crate::assignment::assignment_of;
@@ -52,11 +52,11 @@ fn solve_exactly(
     requires clauses { length formula.now.clauses < 2 ^ 31 }
     requires rises { IsStrictlyIncreasing base.now }
     requires below { All (λ v. v < formula.now.vars) base.now }
-    ensures answer { IfOk result (IsAnswer formula.now.clauses formula.now.vars limit) }
+    ensures answer { IfOk result (IsSolverAnswer formula.now.clauses formula.now.vars limit) }
     ensures enough { IfOk result (λ a. Determines formula.now.clauses formula.now.vars base.now
-        → 3 ^ length base.now ≤ limit → ¬ (IsSpent a)) }
+        → 3 ^ length base.now ≤ limit → ¬ (IsSpentAnswer a)) }
     ensures conflict { IfOk result (λ a. (row : List ℕ) → IsUnitRow formula.now.clauses [] row
-        → MeetsConflict formula.now.clauses row → ¬ (IsSpent a)) }
+        → MeetsConflict formula.now.clauses row → ¬ (IsSpentAnswer a)) }
 {
     let over_base = is_enough(limit, base.len());
     let first = preferred(base, over_base);
@@ -92,8 +92,8 @@ fn solve_soon(
     requires clauses { length formula.now.clauses < 2 ^ 31 }
     requires rises { IsStrictlyIncreasing base.now }
     requires below { All (λ v. v < formula.now.vars) base.now }
-    ensures answer { IfOk result (λ o. IfSome o (IsAnswer formula.now.clauses formula.now.vars limit)) }
-    ensures found { IfOk result (λ o. IfSome o (λ a. ¬ (IsSpent a))) }
+    ensures answer { IfOk result (λ o. IfSome o (IsSolverAnswer formula.now.clauses formula.now.vars limit)) }
+    ensures found { IfOk result (λ o. IfSome o (λ a. ¬ (IsSpentAnswer a))) }
 {
     match solve_exactly(alloc, formula, base, FEW)? {
         Answer::Sat(assignment) => Ok(Some(Answer::Sat(assignment))),
@@ -123,11 +123,11 @@ pub fn solve(
     requires clauses { length formula.now.clauses < 2 ^ 31 }
     requires rises { IsStrictlyIncreasing base.now }
     requires below { All (λ v. v < formula.now.vars) base.now }
-    ensures answer { IfOk result (IsAnswer formula.now.clauses formula.now.vars limit) }
+    ensures answer { IfOk result (IsSolverAnswer formula.now.clauses formula.now.vars limit) }
     ensures enough { IfOk result (λ a. Determines formula.now.clauses formula.now.vars base.now
-        → 3 ^ length base.now ≤ limit → ¬ (IsSpent a)) }
+        → 3 ^ length base.now ≤ limit → ¬ (IsSpentAnswer a)) }
     ensures conflict { IfOk result (λ a. (row : List ℕ) → IsUnitRow formula.now.clauses [] row
-        → MeetsConflict formula.now.clauses row → ¬ (IsSpent a)) }
+        → MeetsConflict formula.now.clauses row → ¬ (IsSpentAnswer a)) }
 {
     if limit <= SMALL {
         return solve_exactly(alloc, formula, base, limit);

@@ -94,7 +94,8 @@ module _ {X : Type 0} (item : List X → Reader X) (each : (seen : List X) → A
       bind_advances (item seen) (λ x. times_from item n (seen ++ x ∷ [])) (each seen)
       (λ x. times_advances n (seen ++ x ∷ [])) s
 
-  within_advances : (goes : Words → Bool) (n : ℕ) (seen : List X) → Advances (repeat_in goes item n seen)
+  -- items of at most so many tokens, as long as one comes
+  pub within_advances : (goes : Words → Bool) (n : ℕ) (seen : List X) → Advances (repeat_in goes item n seen)
   unfolding repeat_in
   within_advances goes zero seen s = reached_here s
   within_advances goes (suc n) seen s =
@@ -111,7 +112,8 @@ module _ {X : Type 0} (item : List X → Reader X) (each : (seen : List X) → A
 -- ---- terms
 
 module _ (argument : List Term → Reader Term) (each : (seen : List Term) → Advances (argument seen)) where
-  args_advances : (op : Op) → Advances (times_from argument (arity op) [] >>= λ args. closing.read >>= λ _.
+  -- what follows an operator's name
+  pub args_advances : (op : Op) → Advances (times_from argument (arity op) [] >>= λ args. closing.read >>= λ _.
       done (Node op args))
   unfolding key_or
   args_advances op =
@@ -119,7 +121,8 @@ module _ (argument : List Term → Reader Term) (each : (seen : List Term) → A
       (times_advances argument each (arity op) []) (λ args.
       seen_advances closing.read (λ _. Node op args) (judged_advances (key_judge count (codes ")"))))
 
-  node_advances : (head : Option Term) → Advances (node_by argument head)
+  -- what follows the first token of a term
+  pub node_advances : (head : Option Term) → Advances (node_by argument head)
   unfolding operator
   node_advances (Some t) = reached_here
   node_advances None =

@@ -1,19 +1,17 @@
 -- The words of canonical texts.
 use Rattle.std.proofs.Common.{Some, None, Ok, ◌≡◌, ℕ, ◌+◌, ◌<◌, Bool, true, false, cond, ◌||◌, not, List, [], ◌∷◌, ◌++◌}
 use Rattle.std.proofs.Common.{decimal, ◌^◌, flat_map, codes, bytes_eq, ap, subst, ◌∙◌, sym, refl, arith, inl, inr, lit<}
-use Rattle.std.specs.Prelude.{◌⊎◌, ◌==◌}
+use Rattle.std.specs.Prelude.{◌⊎◌, ◌==◌, ◌&&◌, nat_lt, length}
 use Rattle.std.specs.List.{AllByRecursion, list_all, position_from, prefix_len, suffix_len}
 use Rattle.std.proofs.lemmas.Bool.{and_from, and_parts, cases_Bool, le-leb, leb-true, ltb-true, ne_eqb, or_cases}
 use Rattle.std.proofs.lemmas.Bool.{or_right}
 use Rattle.std.proofs.lemmas.Iterator.Adapters.{position_from-zero}
 use Rattle.std.proofs.lemmas.List.{append-nil}
-use Rattle.am_text.specs.Tokens.{IsParenthesis, IsWord, bad_byte, is_allowed, is_word_byte, words_of}
+use Rattle.am_text.specs.Tokens.{IsParenthesis, IsTokenWord, bad_byte, is_allowed, is_word_byte, words_of}
 use Rattle.am_text.proofs.Laws.{IsSeam, parenthesis_is, suffix_none, words_of-append, words_of-parenthesis}
 use Rattle.am_text.proofs.Laws.{words_of-space, words_of-word}
 use Rattle.am_bv.specs.Terms.{fits}
 use Rattle.am_bv.specs.declared.op.Op.{Op}
-use Rattle.am_bv.specs.declared.op.Op.TheVariants.{Not, Neg, And, Or, Xor, Add, Sub, Mul, Udiv, Urem, Shl, Lshr, Ashr}
-use Rattle.am_bv.specs.declared.op.Op.TheVariants.{Eq, Ult, Ule, Slt, Sle, Umin, Umax, Smin, Smax, Ite}
 use Rattle.am_bv.specs.declared.term.Term.{Term}
 use Rattle.am_bv.proofs.Laws.{by_induction, fits-Field}
 use Rattle.am_syntax.specs.Canonical.{AreTokens, IsToken, gap, line, lines, spaced, term_text}
@@ -26,6 +24,7 @@ use Rattle.am_syntax.specs.declared.limits.TermLimits.{TermLimits}
 use Rattle.am_syntax.specs.Spelling.{IsScope, Scope, letter_code, scope_of, term_words}
 use Rattle.am_syntax.specs.Terms.{term}
 use Rattle.am_syntax.specs.Texts.{text_value}
+use Rattle.am_syntax.proofs.EachOperator.{each_op}
 use Rattle.am_syntax.proofs.TextLaws.{text_read}
 use Rattle.am_syntax.proofs.PieceLaws.{same_bytes}
 use Rattle.am_syntax.proofs.NumeralLaws.{decimal-is_digits}
@@ -36,7 +35,7 @@ use Rattle.am_syntax.proofs.SpacedLaws.{children_fit, const_digits, each_so}
 -- ---- the words of a canonical text
 
 abbrev Shape : Word → Type 0
-Shape v = IsParenthesis v ⊎ IsWord v
+Shape v = IsParenthesis v ⊎ IsTokenWord v
 
 token_alone : (v : Word) → Shape v → words_of v ≡ v ∷ []
 token_alone v (inr word) = words_of-word v word
@@ -169,46 +168,25 @@ digits_word : (bs : List ℕ) → list_all is_digit bs ≡ true → list_all is_
 digits_word [] h = refl
 digits_word (b ∷ bs) h = let parts = and_parts _ _ h in and_from _ _ (digit_word b parts.0) (digits_word bs parts.1)
 
-digits_is_word : (v : Word) → is_digits v ≡ true → IsWord v
+digits_is_word : (v : Word) → is_digits v ≡ true → IsTokenWord v
 digits_is_word v h = let parts = and_parts _ _ h in (ltb-true _ _ parts.0, digits_word v parts.1)
 
 -- a row of digits is a token
 pub digits_is_token : (v : Word) → is_digits v ≡ true → IsToken v
 digits_is_token v h = record { shape = inr (digits_is_word v h); allowed = digits_allowed v (and_parts _ _ h).1 }
 
-abbrev named_token : (v : Word) → IsWord v → list_all is_allowed v ≡ true → IsToken v
-named_token v word allowed = record { shape = inr word; allowed = allowed }
+-- whether a word is no parenthesis, of bytes that a text may have
+abbrev is_plain : Word → Bool
+is_plain v = nat_lt 0 (length v) && list_all is_word_byte v && list_all is_allowed v
 
 -- an operator's name is a token
 pub op_name_is_token : (op : Op) → IsToken (op_name op)
 op_name_is_token op =
-    elim op as (λ o. IsToken (op_name o)) [
-      | Not ↦ named_token _ (lit< tt, refl) refl
-      | Neg ↦ named_token _ (lit< tt, refl) refl
-      | And ↦ named_token _ (lit< tt, refl) refl
-      | Or ↦ named_token _ (lit< tt, refl) refl
-      | Xor ↦ named_token _ (lit< tt, refl) refl
-      | Add ↦ named_token _ (lit< tt, refl) refl
-      | Sub ↦ named_token _ (lit< tt, refl) refl
-      | Mul ↦ named_token _ (lit< tt, refl) refl
-      | Udiv ↦ named_token _ (lit< tt, refl) refl
-      | Urem ↦ named_token _ (lit< tt, refl) refl
-      | Shl ↦ named_token _ (lit< tt, refl) refl
-      | Lshr ↦ named_token _ (lit< tt, refl) refl
-      | Ashr ↦ named_token _ (lit< tt, refl) refl
-      | Eq ↦ named_token _ (lit< tt, refl) refl
-      | Ult ↦ named_token _ (lit< tt, refl) refl
-      | Ule ↦ named_token _ (lit< tt, refl) refl
-      | Slt ↦ named_token _ (lit< tt, refl) refl
-      | Sle ↦ named_token _ (lit< tt, refl) refl
-      | Umin ↦ named_token _ (lit< tt, refl) refl
-      | Umax ↦ named_token _ (lit< tt, refl) refl
-      | Smin ↦ named_token _ (lit< tt, refl) refl
-      | Smax ↦ named_token _ (lit< tt, refl) refl
-      | Ite ↦ named_token _ (lit< tt, refl) refl
-    ]
+    let tests = and_parts _ _ (each_op (λ op. is_plain (op_name op)) (λ _. true) refl op) in
+    let word = and_parts _ _ tests.0 in
+    record { shape = inr (ltb-true 0 (length (op_name op)) word.0, word.1); allowed = tests.1 }
 
-letter_token : (l : Letter) (bs : List ℕ) → IsToken bs → IsWord bs → IsToken (letter_code l ∷ bs)
+letter_token : (l : Letter) (bs : List ℕ) → IsToken bs → IsTokenWord bs → IsToken (letter_code l ∷ bs)
 letter_token X bs is word = record { shape = inr (omega arith, word.1); allowed = is.allowed }
 letter_token F bs is word = record { shape = inr (omega arith, word.1); allowed = is.allowed }
 

@@ -2,11 +2,13 @@ pub mod Finds
 pub mod Judging
 pub mod Takes
 pub mod Advancing
+pub mod Stopping
 pub mod PieceLaws
 pub mod ListLaws
 pub mod Loops
 pub mod TermSteps
 pub mod NumeralLaws
+pub mod EachOperator
 pub mod TokenLaws
 pub mod TermWords
 pub mod TermLaws

@@ -4,9 +4,10 @@ use Rattle.std.proofs.Common.{subst, ◌∙◌, append_assoc, arith, inl, inr, l
 use Rattle.std.proofs.lemmas.Bool.{cases_Bool}
 use Rattle.std.proofs.lemmas.List.{append-nil}
 use Rattle.am_text.specs.Tokens.{Left, words}
-use Rattle.am_syntax.specs.Readers.{Reader, Words, onward}
+use Rattle.am_syntax.specs.Readers.{LooksAtNext, Reader, Words, onward}
 use Rattle.am_syntax.specs.Pieces.{Piece, good_from, repeat, repeat_from, repeat_in, spelled_from, times, times_from}
 use Rattle.am_syntax.proofs.Advancing.{repeat_advances, times_advances}
+use Rattle.am_syntax.proofs.Stopping.{repeat_alike, times_alike}
 use Rattle.am_syntax.proofs.Takes.{Takes-halves, Takes-length, Takes-none, Takes-nothing, Takes-then, Takes-words}
 use Rattle.am_syntax.proofs.Repeats.{in_goes, in_stops, opened, repeat_more, repeat_stops}
 use Rattle.am_syntax.specs.Exact.{IsExact, Takes}
@@ -99,6 +100,7 @@ module _ {X : Type 0} {item : List X → Piece X} {May : Words → Type 0}
         λ s xs u good taken may. ap (λ n. times_from read n [] s) (sym good.0)
         ∙ times_again next xs [] s u good.1 taken may;
     advances = times_advances read (λ seen. (law seen).advances) n [];
+    no_further = times_alike read (λ seen. (law seen).no_further) (λ seen. (law seen).advances) n [];
   }
 
   -- ---- items as long as some begin
@@ -137,7 +139,8 @@ module _ {X : Type 0} {item : List X → Piece X} {May : Words → Type 0}
               (found_none item seen s)
         ]
 
-    module _ {End : Words → Type 0} (ends : (rest : Words) → End rest → (goes rest ≡ false) × May rest)
+    module _ (at_next : LooksAtNext goes) {End : Words → Type 0}
+        (ends : (rest : Words) → End rest → (goes rest ≡ false) × May rest)
         (begins : (seen : List X) (x : X) (rest : Words) →
         (item seen).Good x → goes ((item seen).spell x ++ rest) ≡ true)
         (next : (seen : List X) (x : X) (rest : Words) → (item seen).Good x → May ((item seen).spell x ++ rest)) where
@@ -172,4 +175,7 @@ module _ {X : Type 0} {item : List X → Piece X} {May : Words → Type 0}
             (f.taken, f.good);
         again = λ s xs u good taken end. repeat_again xs [] s u good taken end;
         advances = repeat_advances read (λ seen. (law seen).advances) goes [];
+        no_further =
+            repeat_alike read (λ seen. (law seen).no_further) (λ seen. (law seen).advances) goes at_next
+            (moves_on moves) [];
       }

@@ -5,14 +5,14 @@ use Rattle.am_text.specs.Tokens.{Left}
 use Rattle.am_syntax.specs.declared.refusal.Cause.{Cause}
 use Rattle.am_syntax.specs.declared.refusal.Failure.{Failure}
 use Rattle.am_syntax.specs.declared.refusal.Failure.TheVariants.{Refused, NoMemory}
-use Rattle.am_syntax.specs.Readers.{◌>>=◌, Gives, Makes, Read, Reader, follows, onward}
+use Rattle.am_syntax.specs.Readers.{◌>>=◌, GivesRead, Makes, Read, Reader, follows, onward}
 use Rattle.am_syntax.specs.Pieces.{times_from}
 
 -- what a call answers that takes no memory and is refused
 pub gives_err : {X Y : Type 0} (view : X → Y) (old left : Left) (reader : Reader Y) (cause : Cause)
-    (r : Result X Cause) → r ≡ Err cause → reader old ≡ Err (cause, left) → Gives view r old left reader
+    (r : Result X Cause) → r ≡ Err cause → reader old ≡ Err (cause, left) → GivesRead view r old left reader
 gives_err {X = X} view old left reader cause r is h =
-    subst (λ (q : Result X Cause). Gives view q old left reader) (sym is) h
+    subst (λ (q : Result X Cause). GivesRead view q old left reader) (sym is) h
 
 -- what a call answers that failed: its refusal is the reader's
 pub makes_err : {X Y : Type 0} (view : X → Y) (old left : Left) (reader : Reader Y) (e : Failure)

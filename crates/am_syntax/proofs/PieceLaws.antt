@@ -7,12 +7,15 @@ use Rattle.std.proofs.lemmas.Slice.Eq.{bytes_eq-Decides}
 use Rattle.am_text.specs.Tokens.{Left, Placed, words}
 use Rattle.am_syntax.specs.declared.refusal.Cause.{Cause}
 use Rattle.am_syntax.specs.declared.refusal.Cause.TheVariants.{Syntax, Count}
-use Rattle.am_syntax.specs.Readers.{◌>>=◌, Read, Reader, Word, Words, done, judged, judged_in, onward, settled}
+use Rattle.am_syntax.specs.Readers.{◌>>=◌, LooksAtNext, LooksNoFurther, Reached, Read, Reader, Word, Words, done}
+use Rattle.am_syntax.specs.Readers.{judged, judged_in}
+use Rattle.am_syntax.specs.Readers.{left_by, onward, settled}
 use Rattle.am_syntax.specs.Pieces.{◌▹◌, Piece, choice, closed_or, key_judge, key_or, keyed_or, keyed, next_is, one_more}
 use Rattle.am_syntax.specs.Pieces.{optional, seen_as, syntax, token}
 use Rattle.am_syntax.specs.Exact.{IsExact, Takes, WithoutKey, always, words_in}
 use Rattle.am_syntax.proofs.Advancing.{bind_advances, bind_reached, if_reached, judged_advances, reached_here}
 use Rattle.am_syntax.proofs.Advancing.{seen_advances}
+use Rattle.am_syntax.proofs.Stopping.{bind_alike, choice_alike, done_alike, judged_alike, onward_read_alike, seen_alike}
 use Rattle.am_syntax.proofs.Takes.{Takes-halves, Takes-none, Takes-nothing, Takes-then, Takes-words}
 
 -- values that were read alike are the same, and leave the same
@@ -91,6 +94,7 @@ module _ {X : Type 0} (judge : Word → Result X Cause) (word : X → Word) (Goo
     takes = λ s x t e. one_takes s.tokens s.end x t e;
     again = λ s x t good p may. one_again s.tokens s.end x t good p;
     advances = judged_advances judge;
+    no_further = judged_alike judge;
   }
 
 -- words that are found to be equal are equal
@@ -130,6 +134,12 @@ key_again cause word s t p = (key_law cause word).again s tt t tt p tt
 module _ {X Y : Type 0} {p : Piece X} {q : X → Piece Y} {May Then : Words → Type 0} (one : IsExact p May)
     (two : (x : X) → p.Good x → IsExact (q x) Then)
     (meets : (x : X) (y : Y) (rest : Words) → p.Good x → (q x).Good y → Then rest → May ((q x).spell y ++ rest)) where
+  abbrev pair_after : X → Reader (X × Y)
+  pair_after x = (q x).read >>= λ y. done (x, y)
+
+  after_reached : (s : Left) (x : X) (t : Left) → p.read s ≡ Ok (x, t) → Reached t (left_by (pair_after x t))
+  after_reached s x t e = seen_advances (q x).read (λ y. (x, y)) (two x (one.takes s x t e).1).advances t
+
   -- one piece after another is read exactly where both are spelled so
   pub then_law : IsExact (p ▹ q) Then
   then_law = record {
@@ -148,8 +158,10 @@ module _ {X Y : Type 0} {p : Piece X} {q : X → Piece Y} {May Then : Words → 
         one.again s z.0 h.between good.0 h.first (subst May (sym (Takes-words h.between ((q z.0).spell z.1) u h.second))
         (meets z.0 z.1 (words u) good.0 good.1 may)) in
         ap (onward (λ x. (q x).read >>= λ y. done (x, y))) before ∙ ap (onward (λ y. done (z.0, y))) after;
-    advances = λ s. bind_reached s p.read (λ x. (q x).read >>= λ y. done (x, y)) one.advances (λ x t e.
-        seen_advances (q x).read (λ y. (x, y)) (two x (one.takes s x t e).1).advances t);
+    advances = λ s. bind_reached s p.read pair_after one.advances (λ x t e. after_reached s x t e);
+    no_further = λ s u. onward_read_alike s u p.read pair_after pair_after (one.no_further s u) one.advances
+        (λ x t e. after_reached s x t e) (λ x t v e _. let law = two x (one.takes s x t e).1 in
+        seen_alike (q x).read (λ y. (x, y)) law.no_further law.advances t v);
   }
 
 -- a piece after a key word
@@ -164,6 +176,10 @@ keyed_law {p = p} cause word law = record {
       let h = Takes-halves s (word ∷ []) (p.spell x) u taken in
       ap (onward (λ _. p.read)) (key_again cause word s h.between h.first) ∙ law.again h.between x u good h.second may;
   advances = bind_advances (key_or cause word).read (λ _. p.read) (key_law cause word).advances (λ _. law.advances);
+  no_further =
+      let first = key_law cause word in
+      bind_alike (key_or cause word).read (λ _. p.read) first.no_further first.advances (λ _. law.no_further)
+      (λ _. law.advances);
 }
 
 -- a piece before a key word
@@ -187,6 +203,11 @@ closed_law {X = X} {p = p} {May = May} cause word law meets = record {
   advances =
       bind_advances p.read (λ x. (key_or cause word).read >>= λ _. done x) law.advances
       (λ x. seen_advances (key_or cause word).read (λ _. x) (key_law cause word).advances);
+  no_further =
+      let last = key_law cause word in
+      bind_alike p.read (λ x. (key_or cause word).read >>= λ _. done x) law.no_further law.advances
+      (λ x. seen_alike (key_or cause word).read (λ _. x) last.no_further last.advances)
+      (λ x. seen_advances (key_or cause word).read (λ _. x) last.advances);
 }
 
 -- the same piece with another view of its good values
@@ -203,6 +224,7 @@ seen_good_law {X = X} {Y = Y} {p = p} to from law there back = record {
   again = λ s y u good taken may.
       ap (onward (λ x. done (to x))) (law.again s (from y) u good taken may) ∙ ap (λ (z : Y). Ok (z, u)) (back y good);
   advances = seen_advances p.read to law.advances;
+  no_further = seen_alike p.read to law.no_further law.advances;
 }
 
 -- the same piece with another view of its values
@@ -237,11 +259,13 @@ one_more_law true law = record {
   takes = λ s x u e. let a = law.takes s x u e in (a.0, (refl, a.1));
   again = λ s x u good taken may. law.again s x u good.1 taken may;
   advances = law.advances;
+  no_further = law.no_further;
 }
 one_more_law false law = record {
   takes = λ s x u e. absurd (none_passes Count s x u e);
   again = λ s x u good taken may. absurd (let e : false ≡ true = good.0 in cc);
   advances = judged_advances (λ _. Err Count);
+  no_further = judged_alike (λ _. Err Count);
 }
 
 -- an optional piece is read exactly where its words stand, or where its key word doesn't
@@ -280,6 +304,10 @@ optional_law {X = X} {p = p} {May = May} word law =
       advances =
           λ s. if_reached (next_is word (words s)) some (done None) s
           (seen_advances (keyed word p).read Some (keyed_law syntax word law).advances) reached_here;
+      no_further =
+          let keyed_is = keyed_law syntax word law in
+          choice_alike (next_is word) (λ _ _ _. refl) some (done None)
+          (seen_alike (keyed word p).read Some keyed_is.no_further keyed_is.advances) (done_alike None);
     }
 
 module _ {X Y : Type 0} {p : Piece X} {q : Piece Y} {May : Words → Type 0} (test : Words → Bool) (one : IsExact p May)
@@ -292,9 +320,9 @@ module _ {X Y : Type 0} {p : Piece X} {q : Piece Y} {May : Words → Type 0} (te
   abbrev right_read : Reader (X ⊎ Y)
   right_read = q.read >>= λ y. done (inr y)
 
-  -- a choice is read exactly where the test picks the piece that is spelled
-  pub choice_law : IsExact (choice test p q) May
-  choice_law = record {
+  -- a choice is read exactly where the test picks the piece that is spelled, if it looks no further than where it stops
+  pub choice_by_law : LooksNoFurther (choice test p q).read → IsExact (choice test p q) May
+  choice_by_law no_further = record {
     takes = λ s z u e. elim (cases_Bool (test (words s))) [
       | inl pass ↦
           let f =
@@ -326,4 +354,11 @@ module _ {X Y : Type 0} {p : Piece X} {q : Piece Y} {May : Words → Type 0} (te
     advances =
         λ s. if_reached (test (words s)) left_read right_read s (seen_advances p.read inl one.advances)
         (seen_advances q.read inr two.advances);
+    no_further = no_further;
   }
+
+  -- a choice by the next token alone
+  pub choice_law : LooksAtNext test → IsExact (choice test p q) May
+  choice_law at_next =
+      choice_by_law (choice_alike test at_next left_read right_read
+      (seen_alike p.read inl one.no_further one.advances) (seen_alike q.read inr two.no_further two.advances))

@@ -8,17 +8,16 @@ use Rattle.std.proofs.lemmas.List.{append-nil}
 use Rattle.am_bv.specs.Operators.{arity}
 use Rattle.am_bv.specs.Terms.{fits}
 use Rattle.am_bv.specs.declared.op.Op.{Op}
-use Rattle.am_bv.specs.declared.op.Op.TheVariants.{Not, Neg, And, Or, Xor, Add, Sub, Mul, Udiv, Urem, Shl, Lshr, Ashr}
-use Rattle.am_bv.specs.declared.op.Op.TheVariants.{Eq, Ult, Ule, Slt, Sle, Umin, Umax, Smin, Smax, Ite}
 use Rattle.am_bv.specs.declared.term.Term.{Term}
 use Rattle.am_bv.specs.declared.term.Term.TheVariants.{Const, Field, Node}
 use Rattle.am_bv.proofs.Laws.{by_induction, fits-Const, fits-Node}
-use Rattle.am_syntax.specs.Canonical.{after, spaced, term_text}
+use Rattle.am_syntax.specs.Canonical.{spaced, spaced_after, term_text}
 use Rattle.am_syntax.specs.Names.{op_name}
 use Rattle.am_syntax.specs.Readers.{Word, Words}
 use Rattle.am_syntax.specs.declared.limits.Letter.{Letter}
 use Rattle.am_syntax.specs.Numerals.{is_digits}
 use Rattle.am_syntax.specs.Spelling.{IsScope, Scope, letter_code, term_words}
+use Rattle.am_syntax.proofs.EachOperator.{each_op}
 use Rattle.am_syntax.proofs.NumeralLaws.{decimal-is_digits}
 use Rattle.am_syntax.proofs.TermWords.{digits_apart, letter_closes, letter_opens, narrow, words-Const, words-Field}
 use Rattle.am_syntax.proofs.TermWords.{words-Node}
@@ -26,14 +25,14 @@ use Rattle.am_syntax.proofs.TermWords.{words-Node}
 -- ---- the text of each kind of term
 
 -- a word that opens nothing, and what follows it
-pub spaced-word : (v : Word) (ws : Words) → bytes_eq v (codes "(") ≡ false → spaced (v ∷ ws) ≡ v ++ after ws
+pub spaced-word : (v : Word) (ws : Words) → bytes_eq v (codes "(") ≡ false → spaced (v ∷ ws) ≡ v ++ spaced_after ws
 spaced-word v [] h = sym (append-nil v)
 spaced-word v (w ∷ ws) h = ap (λ b. v ++ (cond (b || bytes_eq w (codes ")")) [] (32 ∷ []) ++ spaced (w ∷ ws))) h
 
 -- words that stand between spaces: other words follow after a space, and so do they
 pub record StandApart (us : Words) : Type 0 where
-  pub before : (ws : Words) → spaced (us ++ ws) ≡ spaced us ++ after ws
-  pub behind : (ws : Words) → after (us ++ ws) ≡ 32 ∷ spaced (us ++ ws)
+  pub before : (ws : Words) → spaced (us ++ ws) ≡ spaced us ++ spaced_after ws
+  pub behind : (ws : Words) → spaced_after (us ++ ws) ≡ 32 ∷ spaced (us ++ ws)
 
 -- a word that is no parenthesis stands apart
 pub word_apart : (v : Word) → bytes_eq v (codes "(") ≡ false → bytes_eq v (codes ")") ≡ false → StandApart (v ∷ [])
@@ -45,8 +44,8 @@ word_apart v opens closes = record {
 -- after words that stand apart comes a space, then other words that stand apart
 pub spaced_apart : (us vs : Words) → StandApart us → StandApart vs → spaced (us ++ vs) ≡ spaced us ++ (32 ∷ spaced vs)
 spaced_apart us vs one two =
-    let alone : after vs ≡ 32 ∷ spaced vs =
-    subst (λ (ws : Words). after ws ≡ 32 ∷ spaced ws) (append-nil vs) (two.behind []) in
+    let alone : spaced_after vs ≡ 32 ∷ spaced vs =
+    subst (λ (ws : Words). spaced_after ws ≡ 32 ∷ spaced ws) (append-nil vs) (two.behind []) in
     one.before vs ∙ ap (λ (bs : List ℕ). spaced us ++ bs) alone
 
 -- words that stand apart, one row after another, stand apart
@@ -56,10 +55,10 @@ both_apart us vs one two = record {
       ap spaced (append_assoc us vs ws)
       ∙ one.before (vs ++ ws)
       ∙ ap (λ (bs : List ℕ). spaced us ++ bs) (two.behind ws ∙ ap (λ (bs : List ℕ). 32 ∷ bs) (two.before ws))
-      ∙ sym (append_assoc (spaced us) (32 ∷ spaced vs) (after ws))
-      ∙ ap (λ (bs : List ℕ). bs ++ after ws) (sym (spaced_apart us vs one two));
+      ∙ sym (append_assoc (spaced us) (32 ∷ spaced vs) (spaced_after ws))
+      ∙ ap (λ (bs : List ℕ). bs ++ spaced_after ws) (sym (spaced_apart us vs one two));
   behind =
-      λ ws. ap after (append_assoc us vs ws) ∙ one.behind (vs ++ ws)
+      λ ws. ap spaced_after (append_assoc us vs ws) ∙ one.behind (vs ++ ws)
       ∙ ap (λ (us : Words). 32 ∷ spaced us) (sym (append_assoc us vs ws));
 }
 
@@ -67,32 +66,7 @@ regrouped : (a b c : List ℕ) → (a ++ (b ++ codes ")")) ++ c ≡ a ++ (b ++ (
 regrouped a b c = append_assoc a (b ++ codes ")") c ∙ ap (λ (bs : List ℕ). a ++ bs) (append_assoc b (codes ")") c)
 
 name_opens : (op : Op) → bytes_eq (op_name op) (codes "(") ≡ false
-name_opens op =
-    elim op as (λ o. bytes_eq (op_name o) (codes "(") ≡ false) [
-      | Not ↦ refl
-      | Neg ↦ refl
-      | And ↦ refl
-      | Or ↦ refl
-      | Xor ↦ refl
-      | Add ↦ refl
-      | Sub ↦ refl
-      | Mul ↦ refl
-      | Udiv ↦ refl
-      | Urem ↦ refl
-      | Shl ↦ refl
-      | Lshr ↦ refl
-      | Ashr ↦ refl
-      | Eq ↦ refl
-      | Ult ↦ refl
-      | Ule ↦ refl
-      | Slt ↦ refl
-      | Sle ↦ refl
-      | Umin ↦ refl
-      | Umax ↦ refl
-      | Smin ↦ refl
-      | Smax ↦ refl
-      | Ite ↦ refl
-    ]
+name_opens op = each_op (λ op. bytes_eq (op_name op) (codes "(")) (λ _. false) refl op
 
 -- the text of each of a list, after a space, where each is spelled by words
 module _ {A : Type 0} (words : A → Words) where
@@ -105,22 +79,22 @@ module _ {A : Type 0} (words : A → Words) where
   EachApart xs = AllByRecursion (λ x. StandApart (words x)) xs
 
   after_each : (xs : List A) → EachApart xs → (ws : Words) →
-      after (flat_map words xs ++ ws) ≡ each_text xs ++ after ws
+      spaced_after (flat_map words xs ++ ws) ≡ each_text xs ++ spaced_after ws
   after_each [] h ws = refl
   after_each (x ∷ xs) h ws =
       let rest = flat_map words xs ++ ws in
-      ap after (append_assoc (words x) (flat_map words xs) ws)
+      ap spaced_after (append_assoc (words x) (flat_map words xs) ws)
       ∙ h.0.behind rest
       ∙ ap (λ (bs : List ℕ). 32 ∷ bs) (h.0.before rest
       ∙ ap (λ (bs : List ℕ). spaced (words x) ++ bs) (after_each xs h.1 ws)
-      ∙ sym (append_assoc (spaced (words x)) (each_text xs) (after ws)))
+      ∙ sym (append_assoc (spaced (words x)) (each_text xs) (spaced_after ws)))
 
   -- each of a list, after words that stand apart
   pub spaced_each : (us : Words) (xs : List A) → StandApart us → EachApart xs →
       spaced (us ++ flat_map words xs) ≡ spaced us ++ each_text xs
   spaced_each us xs one each =
-      let alone : after (flat_map words xs) ≡ each_text xs =
-      ap after (sym (append-nil (flat_map words xs))) ∙ after_each xs each [] ∙ append-nil (each_text xs) in
+      let alone : spaced_after (flat_map words xs) ≡ each_text xs =
+      ap spaced_after (sym (append-nil (flat_map words xs))) ∙ after_each xs each [] ∙ append-nil (each_text xs) in
       one.before (flat_map words xs) ∙ ap (λ (bs : List ℕ). spaced us ++ bs) alone
 
   abbrev tail_words : List A → Words
@@ -129,10 +103,10 @@ module _ {A : Type 0} (words : A → Words) where
   -- an operator at each of a list, and what stands after it
   node_then : (op : Op) (xs : List A) → EachApart xs → (ws : Words) →
       spaced (codes "(" ∷ op_name op ∷ (tail_words xs ++ ws)) ≡
-      codes "(" ++ (op_name op ++ (each_text xs ++ (codes ")" ++ after ws)))
+      codes "(" ++ (op_name op ++ (each_text xs ++ (codes ")" ++ spaced_after ws)))
   node_then op xs each ws =
       let tail =
-      ap after (append_assoc (flat_map words xs) (codes ")" ∷ []) ws)
+      ap spaced_after (append_assoc (flat_map words xs) (codes ")" ∷ []) ws)
       ∙ after_each xs each (codes ")" ∷ ws)
       ∙ ap (λ (bs : List ℕ). each_text xs ++ bs) (spaced-word (codes ")") ws refl) in
       ap (λ (bs : List ℕ). codes "(" ++ bs) (spaced-word (op_name op) (tail_words xs ++ ws) (name_opens op)
@@ -152,8 +126,8 @@ module _ {A : Type 0} (words : A → Words) where
   node_apart op xs each = record {
     before = λ ws.
         node_then op xs each ws
-        ∙ ap (λ (bs : List ℕ). codes "(" ++ bs) (sym (regrouped (op_name op) (each_text xs) (after ws)))
-        ∙ ap (λ (bs : List ℕ). bs ++ after ws) (sym (node_text op xs each));
+        ∙ ap (λ (bs : List ℕ). codes "(" ++ bs) (sym (regrouped (op_name op) (each_text xs) (spaced_after ws)))
+        ∙ ap (λ (bs : List ℕ). bs ++ spaced_after ws) (sym (node_text op xs each));
     behind = λ ws. refl;
   }
 

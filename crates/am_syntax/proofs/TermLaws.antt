@@ -20,17 +20,19 @@ use Rattle.am_syntax.specs.Names.{op_name, operator}
 use Rattle.am_syntax.specs.Numerals.{is_canonical, is_capital, is_digits, is_numeral, number_of}
 use Rattle.am_syntax.specs.Pieces.{Piece, closing, count, good_from, spelled_from, times, times_from, token}
 use Rattle.am_syntax.specs.Readers.{◌>>=◌, Read, Word, Words, done, judged, onward}
-use Rattle.am_syntax.specs.Spelling.{IsScope, IsWithin, Scope, greatest, letter_code, nesting, scope_of, term_words}
+use Rattle.am_syntax.specs.Spelling.{IsScope, IsTermWithin, Scope, greatest, letter_code, nesting, scope_of, term_words}
 use Rattle.am_syntax.specs.Terms.{begins_capital, head_judge, leaf_judge, term, term_at, term_within, variable_judge}
 use Rattle.am_syntax.specs.Terms.{within}
 use Rattle.am_syntax.proofs.Advancing.{term_advances}
+use Rattle.am_syntax.proofs.Stopping.{term_alike}
 use Rattle.am_syntax.proofs.ListLaws.{times_law}
 use Rattle.am_syntax.proofs.NumeralLaws.{decimal-is_canonical, decimal-is_digits, decimal-is_numeral, decimal-number_of}
 use Rattle.am_syntax.proofs.NumeralLaws.{decimal_of_number, digits_decimal_of, no_digits}
 use Rattle.am_syntax.proofs.PieceLaws.{bind_ok, key_again, key_takes, ok_is, same_bytes, token_law}
 use Rattle.am_syntax.specs.Exact.{IsExact, Takes, always}
 use Rattle.am_syntax.proofs.Takes.{Takes-halves, Takes-then}
-use Rattle.am_syntax.proofs.TermSteps.{within_none, argument, behind_op, close_node, head_some, term_leaf, term_node}
+use Rattle.am_syntax.proofs.TermSteps.{within_none, argument, after_operator, close_node, head_some, term_leaf}
+use Rattle.am_syntax.proofs.TermSteps.{term_node}
 use Rattle.am_syntax.proofs.TermSteps.{term_refused}
 use Rattle.am_syntax.proofs.TermWords.{closed_op, digits_apart, letter_capital, letter_closes, letter_digit}
 use Rattle.am_syntax.proofs.TermWords.{letter_opens, narrow, nesting-Const, nesting-Field, nesting-Node, opened_op}
@@ -260,9 +262,9 @@ module _ (scope : Scope) (is : IsScope scope) where
     good : AreGood depth room [] ts
 
   node_takes : (depth room : ℕ) → Law depth → (left : Left) (t : Term) (u : Left) →
-      (operator.read >>= behind_op (argument scope depth room)) left ≡ Ok (t, u) → Noded depth room left t u
+      (operator.read >>= after_operator (argument scope depth room)) left ≡ Ok (t, u) → Noded depth room left t u
   node_takes depth room law left t u e =
-      let f = bind_ok (operator.read left) (behind_op (argument scope depth room)) (t, u) e in
+      let f = bind_ok (operator.read left) (after_operator (argument scope depth room)) (t, u) e in
       let op = f.0.0 in
       let g = bind_ok (times_from (argument scope depth room) (arity op) [] f.0.1) (close_node op) (t, u) f.2 in
       let ts = g.0.0 in
@@ -287,12 +289,12 @@ module _ (scope : Scope) (is : IsScope scope) where
 
   node_again : (depth room : ℕ) → Law depth → (op : Op) (ts : List Term) (left u : Left) → length ts ≡ arity op →
       AreGood depth room [] ts → Takes left (words_of_node op ts) u →
-      (operator.read >>= behind_op (argument scope depth room)) left ≡ Ok (Node op ts, u)
+      (operator.read >>= after_operator (argument scope depth room)) left ≡ Ok (Node op ts, u)
   unfolding operator
   node_again depth room law op ts left u count_is good taken =
       let h = Takes-halves left (op_name op ∷ []) (flat_map (term_words code) ts ++ codes ")" ∷ []) u taken in
       let k = Takes-halves h.between (flat_map (term_words code) ts) (codes ")" ∷ []) u h.second in
-      ap (onward (behind_op (argument scope depth room)))
+      ap (onward (after_operator (argument scope depth room)))
       (operator_law.again left op h.between tt (closed_op op left h.between h.first) tt)
       ∙ ap (onward (close_node op)) ((args_law depth room law op).again h.between ts k.between
       (count_is, good_each depth room [] ts good) (subst (λ (ws : Words). Takes h.between ws k.between)
@@ -303,7 +305,7 @@ module _ (scope : Scope) (is : IsScope scope) where
 
   term_takes : (inside : Bool) (depth room : ℕ) → (0 < depth → Law (depth - 1)) → (s : Left) (t : Term) (u : Left) →
       (r : Read (Option Term)) → judged (head_judge scope inside depth room) s ≡ r →
-      term_at scope inside depth room s ≡ Ok (t, u) → Takes s (term_words code t) u × IsWithin scope depth room t
+      term_at scope inside depth room s ≡ Ok (t, u) → Takes s (term_words code t) u × IsTermWithin scope depth room t
   term_takes inside depth room law s t u (Err stop) j e =
       absurd (let f : ◌≡◌ {A = Read Term} (Err stop) (Ok (t, u)) = sym (term_refused scope inside depth room s stop j)
       ∙ e in cc)
@@ -311,7 +313,7 @@ module _ (scope : Scope) (is : IsScope scope) where
       let first = (head_law inside depth room).takes s (Some l) left j in
       let leaf = first.1.1 in
       let made : Term × Left = (l, left) in
-      subst (λ (p : Term × Left). Takes s (term_words code p.0) p.1 × IsWithin scope depth room p.0)
+      subst (λ (p : Term × Left). Takes s (term_words code p.0) p.1 × IsTermWithin scope depth room p.0)
       (ok_is made (t, u) (sym (term_leaf scope inside depth room s l left j) ∙ e)) (
         subst (λ (ws : Words). Takes s ws left) leaf.spelled first.0,
         record { fit = leaf.fit; few = omega (arith, leaf.one, first.1.0); flat = omega (arith, leaf.flat) },
@@ -322,7 +324,7 @@ module _ (scope : Scope) (is : IsScope scope) where
       let n =
       node_takes (depth - 1) (room - 1) (law deep) left t u
       (sym (term_node scope inside depth room s left deep j) ∙ e) in
-      subst (λ (t : Term). Takes s (term_words code t) u × IsWithin scope depth room t) n.node (
+      subst (λ (t : Term). Takes s (term_words code t) u × IsTermWithin scope depth room t) n.node (
         subst (λ (ws : Words). Takes s ws u) (sym (words-Node code n.op n.ts))
             (Takes-then s (codes "(" ∷ []) left (words_of_node n.op n.ts) u first.0 n.taken),
         record {
@@ -333,7 +335,7 @@ module _ (scope : Scope) (is : IsScope scope) where
       )
 
   leaf_again : (inside : Bool) (depth room : ℕ) (s : Left) (t : Term) (u : Left) (v : Word) → IsLeaf scope v t →
-      IsWithin scope depth room t → Takes s (term_words code t) u → term_at scope inside depth room s ≡ Ok (t, u)
+      IsTermWithin scope depth room t → Takes s (term_words code t) u → term_at scope inside depth room s ≡ Ok (t, u)
   leaf_again inside depth room s t u v leaf good taken =
       let text : v ≡ first_word (term_words code t) = ap first_word leaf.spelled in
       let one : Takes s (head_word (Some t) ∷ []) u =
@@ -344,7 +346,7 @@ module _ (scope : Scope) (is : IsScope scope) where
 
   abbrev Again : Bool → ℕ → ℕ → Term → Type 0
   Again inside depth room t =
-      (s u : Left) → IsWithin scope depth room t → Takes s (term_words code t) u →
+      (s u : Left) → IsTermWithin scope depth room t → Takes s (term_words code t) u →
       term_at scope inside depth room s ≡ Ok (t, u)
 
   term_again : (inside : Bool) (depth room : ℕ) → (0 < depth → Law (depth - 1)) → (t : Term) → Again inside depth room t
@@ -379,6 +381,7 @@ module _ (scope : Scope) (is : IsScope scope) where
     takes = λ s t u e. term_takes inside depth room law s t u (judged (head_judge scope inside depth room) s) refl e;
     again = λ s t u good taken may. term_again inside depth room law t s u good taken;
     advances = term_advances scope inside depth room;
+    no_further = term_alike scope inside depth room;
   }
 
   inner : (depth : ℕ) → Law depth

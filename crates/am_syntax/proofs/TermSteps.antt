@@ -25,8 +25,8 @@ abbrev pub argument : Scope → ℕ → ℕ → List Term → Reader Term
 argument scope depth room seen = term_at scope true depth (room - sum_by nodes seen)
 
 -- what follows an operator's name
-abbrev pub behind_op : (List Term → Reader Term) → Op → Reader Term
-behind_op argument op = times_from argument (arity op) [] >>= λ args. closing.read >>= λ _. done (Node op args)
+abbrev pub after_operator : (List Term → Reader Term) → Op → Reader Term
+after_operator argument op = times_from argument (arity op) [] >>= λ args. closing.read >>= λ _. done (Node op args)
 
 -- the closing parenthesis after an operator's arguments
 abbrev pub close_node : Op → List Term → Reader Term
@@ -51,23 +51,24 @@ module _ (scope : Scope) (inside : Bool) where
   -- an opening parenthesis is followed by an operator's name and its arguments
   pub term_node : (depth room : ℕ) (s left : Left) → 0 < depth →
       judged (head_judge scope inside depth room) s ≡ Ok (None, left) →
-      term_at scope inside depth room s ≡ (operator.read >>= behind_op (argument scope (depth - 1) (room - 1))) left
+      term_at scope inside depth room s ≡ (operator.read >>= after_operator (argument scope (depth - 1) (room - 1)))
+      left
   unfolding term_at
   term_node zero room s left deep e = absurd (omega arith)
   term_node (suc depth) room s left deep e =
       let k : depth ≡ suc depth - 1 = omega arith in
       ap (onward (node_by (argument scope depth (room - 1)))) e
-      ∙ ap (λ d. (operator.read >>= behind_op (argument scope d (room - 1))) left) k
+      ∙ ap (λ d. (operator.read >>= after_operator (argument scope d (room - 1))) left) k
 
   -- a term that is an operator's, after the operator's name
-  pub term_behind : (depth room : ℕ) (s left : Left) (head : Option Term) →
+  pub term_after : (depth room : ℕ) (s left : Left) (head : Option Term) →
       judged (head_judge scope inside depth room) s ≡ Ok (head, left) → head ≡ None → 0 < depth →
       (op : Op) (next : Left) → operator.read left ≡ Ok (op, next) → (n : ℕ) → n ≡ arity op →
       term_at scope inside depth room s ≡ onward (close_node op)
       (times_from (argument scope (depth - 1) (room - 1)) n [] next)
-  term_behind depth room s left head e none deep op next read n count =
+  term_after depth room s left head e none deep op next read n count =
       term_node depth room s left deep (e ∙ ap (λ h. Ok (h, left)) none)
-      ∙ ap (onward (behind_op (argument scope (depth - 1) (room - 1)))) read
+      ∙ ap (onward (after_operator (argument scope (depth - 1) (room - 1)))) read
       ∙ ap (λ m. onward (close_node op) (times_from (argument scope (depth - 1) (room - 1)) m [] next)) (sym count)
 
 -- the sum of one item

@@ -1,21 +1,20 @@
--- The laws of single tokens: numerals, names, operators, domains.
-use Rattle.std.proofs.Common.{◌≡◌, ℕ, ◌^◌, ◌<◌, ◌≤◌, Bool, true, false, cond, ◌&&◌, nat_le, nat_lt, List, [], ◌∷◌}
+-- The laws of single tokens: numerals, names, operators.
+use Rattle.std.proofs.Common.{◌≡◌, ℕ, ◌+◌, ◌^◌, ◌<◌, ◌≤◌, Bool, true, false, cond, ◌&&◌, nat_le, nat_lt, List, [], ◌∷◌}
 use Rattle.std.proofs.Common.{decimal, Option, Some, None, Result, Ok, Err, bytes_eq, find, ap, subst, ◌∙◌, sym, refl}
 use Rattle.std.proofs.Common.{inl, inr, arith, IsTrue}
 use Rattle.std.specs.Prelude.{◌⊎◌}
 use Rattle.std.proofs.lemmas.Bool.{and_from, and_parts, le-leb, leb-true, lt-ltb, ltb-true}
 use Rattle.am_bv.specs.declared.op.Op.{Op}
 use Rattle.am_bv.specs.declared.op.TheConstants.Op.{ALL}
-use Rattle.am_bv.specs.declared.op.Op.TheVariants.{Not, Neg, And, Or, Xor, Add, Sub, Mul, Udiv, Urem, Shl, Lshr, Ashr}
-use Rattle.am_bv.specs.declared.op.Op.TheVariants.{Eq, Ult, Ule, Slt, Sle, Umin, Umax, Smin, Smax, Ite}
 use Rattle.am_syntax.specs.declared.refusal.Cause.{Cause}
 use Rattle.am_syntax.specs.declared.refusal.Cause.TheVariants.{Syntax, Number}
 use Rattle.am_syntax.specs.Names.{op_name, named, op_named, operator, operator_judge}
 use Rattle.am_syntax.specs.Numerals.{is_canonical, is_digits, is_name, number_of}
-use Rattle.am_syntax.specs.Pieces.{below, below_judge, name_judge, name_or, number, number_judge}
+use Rattle.am_syntax.specs.Pieces.{below, name_judge, name_or, number, number_judge}
 use Rattle.am_syntax.specs.Readers.{Word}
 use Rattle.am_syntax.proofs.NumeralLaws.{decimal-is_canonical, decimal-is_digits, decimal-number_of, digits_decimal_of}
 use Rattle.am_syntax.specs.Exact.{IsExact, always}
+use Rattle.am_syntax.proofs.EachOperator.{each_op}
 use Rattle.am_syntax.proofs.PieceLaws.{same_bytes, token_law}
 
 -- which way a choice went
@@ -29,52 +28,14 @@ pub cond_ok : {X : Type 0} (b : Bool) (x : X) (cause : Cause) (y : X) → cond b
 cond_ok true x cause y e = (refl, cc)
 cond_ok false x cause y e = absurd cc
 
-abbrev IsFrom : ℕ → ℕ → ℕ → Type 0
-IsFrom least most n = (least ≤ n) × (n ≤ most)
-
-number_to : (least most : ℕ) → most < 2 ^ 64 → (v : Word) (n : ℕ) → number_judge least most v ≡ Ok n →
-    (v ≡ decimal n) × IsFrom least most n
-number_to least most small v n e =
-    elim (chosen (is_digits v) (cond (is_canonical v && nat_le least (number_of v) && nat_le (number_of v) most)
-    (Ok (number_of v)) (Err Number)) (Err Syntax) (Ok n) e) [
-      | inl digits ↦
-          let given = cond_ok _ (number_of v) Number n digits.1 in
-          let tests = and_parts _ _ given.0 in
-          let front = and_parts _ _ tests.0 in
-          let low = leb-true least (number_of v) front.1 in
-          let high = leb-true (number_of v) most tests.1 in
-          subst (λ (m : ℕ). (v ≡ decimal m) × IsFrom least most m) given.1
-          (digits_decimal_of v digits.0 front.0 (omega arith), (low, high))
-      | inr other ↦ absurd (let e : ◌≡◌ {A = Result ℕ Cause} (Err Syntax) (Ok n) = other.1 in cc)
-    ]
-
-number_back : (least most : ℕ) → most < 2 ^ 64 → (n : ℕ) → IsFrom least most n →
-    number_judge least most (decimal n) ≡ Ok n
-number_back least most small n range =
-    let fits : n < 2 ^ 64 = omega (arith, range.1) in
-    let number = decimal-number_of n fits in
-    let low : nat_le least (number_of (decimal n)) ≡ true = ap (nat_le least) number ∙ le-leb least n range.0 in
-    let high : nat_le (number_of (decimal n)) most ≡ true = ap (λ m. nat_le m most) number ∙ le-leb n most range.1 in
-    ap (λ b. cond b (cond (is_canonical (decimal n) && nat_le least
-    (number_of (decimal n)) && nat_le (number_of (decimal n)) most) (Ok (number_of (decimal n))) (Err Number))
-    (Err Syntax)) (decimal-is_digits n fits)
-    ∙ ap (λ b. cond b (Ok (number_of (decimal n))) (Err Number))
-    (and_from _ _ (and_from _ _ (decimal-is_canonical n fits) low) high)
-    ∙ ap (λ m. Ok m) number
-
--- a number is read exactly where its decimal text stands, in the range
-pub number_law : (least most : ℕ) → most < 2 ^ 64 → IsExact (number least most) always
-unfolding number
-number_law least most small =
-    token_law (number_judge least most) decimal (IsFrom least most) (number_to least most small)
-    (number_back least most small)
-
-abbrev IsBelow : ℕ → ℕ → ℕ → Type 0
+-- a number from least on, below count
+abbrev pub IsBelow : ℕ → ℕ → ℕ → Type 0
 IsBelow least count n = (least ≤ n) × (n < count)
 
-below_to : (least count : ℕ) → count ≤ 2 ^ 64 → (v : Word) (n : ℕ) → below_judge least count v ≡ Ok n →
+-- a row of digits that passes is the decimal text of its number, which is in the range
+pub numeral_passed : (least count : ℕ) → count ≤ 2 ^ 64 → (v : Word) (n : ℕ) → number_judge least count v ≡ Ok n →
     (v ≡ decimal n) × IsBelow least count n
-below_to least count small v n e =
+numeral_passed least count small v n e =
     elim (chosen (is_digits v) (cond (is_canonical v && nat_le least (number_of v) && nat_lt (number_of v) count)
     (Ok (number_of v)) (Err Number)) (Err Syntax) (Ok n) e) [
       | inl digits ↦
@@ -88,9 +49,10 @@ below_to least count small v n e =
       | inr other ↦ absurd (let e : ◌≡◌ {A = Result ℕ Cause} (Err Syntax) (Ok n) = other.1 in cc)
     ]
 
-below_back : (least count : ℕ) → count ≤ 2 ^ 64 → (n : ℕ) → IsBelow least count n →
-    below_judge least count (decimal n) ≡ Ok n
-below_back least count small n range =
+-- the decimal text of each number in the range passes
+pub numeral_passes : (least count : ℕ) → count ≤ 2 ^ 64 → (n : ℕ) → IsBelow least count n →
+    number_judge least count (decimal n) ≡ Ok n
+numeral_passes least count small n range =
     let fits : n < 2 ^ 64 = omega (arith, range.1) in
     let number = decimal-number_of n fits in
     let low : nat_le least (number_of (decimal n)) ≡ true = ap (nat_le least) number ∙ le-leb least n range.0 in
@@ -102,12 +64,21 @@ below_back least count small n range =
     (and_from _ _ (and_from _ _ (decimal-is_canonical n fits) low) high)
     ∙ ap (λ m. Ok m) number
 
+-- a number is read exactly where its decimal text stands, in the range
+pub number_law : (least most : ℕ) → most < 2 ^ 64 → IsExact (number least most) always
+unfolding number
+number_law least most small =
+    let all : most + 1 ≤ 2 ^ 64 = omega arith in
+    token_law (number_judge least (most + 1)) decimal (λ n. (least ≤ n) × (n ≤ most))
+    (λ v n e. let h = numeral_passed least (most + 1) all v n e in (h.0, (h.1.0, omega (arith, h.1.1))))
+    (λ n range. numeral_passes least (most + 1) all n (range.0, omega (arith, range.1)))
+
 -- the same below a count
 pub below_law : (least count : ℕ) → count ≤ 2 ^ 64 → IsExact (below least count) always
 unfolding below
 below_law least count small =
-    token_law (below_judge least count) decimal (IsBelow least count) (below_to least count small)
-    (below_back least count small)
+    token_law (number_judge least count) decimal (IsBelow least count) (numeral_passed least count small)
+    (numeral_passes least count small)
 
 -- a name is read exactly where it stands
 pub name_law : (cause : Word → Cause) → IsExact (name_or cause) always
@@ -133,32 +104,7 @@ named_some None v x e = absurd cc
 -- an operator's name names it
 pub op_named-name : (op : Op) → op_named (op_name op) ≡ Some op
 unfolding op_named
-op_named-name op =
-    elim op as (λ o. op_named (op_name o) ≡ Some o) [
-      | Not ↦ refl
-      | Neg ↦ refl
-      | And ↦ refl
-      | Or ↦ refl
-      | Xor ↦ refl
-      | Add ↦ refl
-      | Sub ↦ refl
-      | Mul ↦ refl
-      | Udiv ↦ refl
-      | Urem ↦ refl
-      | Shl ↦ refl
-      | Lshr ↦ refl
-      | Ashr ↦ refl
-      | Eq ↦ refl
-      | Ult ↦ refl
-      | Ule ↦ refl
-      | Slt ↦ refl
-      | Sle ↦ refl
-      | Umin ↦ refl
-      | Umax ↦ refl
-      | Smin ↦ refl
-      | Smax ↦ refl
-      | Ite ↦ refl
-    ]
+op_named-name op = each_op (λ op. op_named (op_name op)) (λ op. Some op) refl op
 
 op_of_name : (v : Word) (op : Op) → op_named v ≡ Some op → v ≡ op_name op
 unfolding op_named

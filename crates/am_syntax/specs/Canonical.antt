@@ -2,7 +2,7 @@
 use Rattle.std.specs.Prelude.{◌≡◌, ℕ, ◌||◌, true, if◌then◌else◌, List, [], ◌∷◌, ◌++◌, bytes_eq, codes, flat_map, ◌⊎◌}
 use Rattle.std.specs.Prelude.{Result, Ok, Err}
 use Rattle.std.specs.List.{AllByRecursion, list_all}
-use Rattle.am_text.specs.Tokens.{IsParenthesis, IsWord, is_allowed}
+use Rattle.am_text.specs.Tokens.{IsParenthesis, IsTokenWord, is_allowed}
 use Rattle.am_bv.specs.declared.term.Term.{Term}
 use Rattle.am_syntax.specs.Readers.{Word, Words}
 use Rattle.am_syntax.specs.Spelling.{term_words}
@@ -18,9 +18,9 @@ spaced (v ∷ []) = v
 spaced (v ∷ w ∷ ws) = v ++ (gap v w ++ spaced (w ∷ ws))
 
 -- words after one that opens nothing: a space first, but none before a closing parenthesis
-abbrev pub after : Words → List ℕ
-after [] = []
-after (w ∷ ws) = (if bytes_eq w (codes ")") then [] else 32 ∷ []) ++ spaced (w ∷ ws)
+abbrev pub spaced_after : Words → List ℕ
+spaced_after [] = []
+spaced_after (w ∷ ws) = (if bytes_eq w (codes ")") then [] else 32 ∷ []) ++ spaced (w ∷ ws)
 
 -- a line of words
 unfoldable pub line : Words → List ℕ
@@ -36,7 +36,7 @@ term_text letter t = spaced (term_words letter t)
 
 -- a word that is a token of each text in which it stands apart, of bytes that a text may have
 pub record IsToken (v : Word) : Type 0 where
-  pub shape : IsParenthesis v ⊎ IsWord v
+  pub shape : IsParenthesis v ⊎ IsTokenWord v
   pub allowed : list_all is_allowed v ≡ true
 
 -- each word is such a token

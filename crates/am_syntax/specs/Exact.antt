@@ -2,7 +2,7 @@
 use Rattle.std.specs.Prelude.{◌≡◌, false, List, [], ◌++◌, Ok, map}
 use Rattle.am_text.specs.Tokens.{Left, Placed, words}
 use Rattle.am_syntax.specs.Pieces.{Piece, next_is}
-use Rattle.am_syntax.specs.Readers.{Advances, Word, Words}
+use Rattle.am_syntax.specs.Readers.{Advances, LooksNoFurther, Word, Words}
 
 -- the words of tokens, without their places
 abbrev pub words_in : List Placed → Words
@@ -16,11 +16,12 @@ pub record Takes (s : Left) (text : Words) (left : Left) : Type 0 where
   pub same_end : s.end ≡ left.end
 
 -- what is read is spelled so and is good; what is good and spelled so is read, where what follows is allowed;
--- and what is left after a value, or from a refused token on, was reached
+-- what is left after a value, or from a refused token on, was reached; and what follows that token makes no difference
 pub record IsExact {X : Type 0} (p : Piece X) (May : Words → Type 0) : Type 0 where
   pub takes : (s : Left) (x : X) (t : Left) → p.read s ≡ Ok (x, t) → Takes s (p.spell x) t × p.Good x
   pub again : (s : Left) (x : X) (t : Left) → p.Good x → Takes s (p.spell x) t → May (words t) → p.read s ≡ Ok (x, t)
   pub advances : Advances p.read
+  pub no_further : LooksNoFurther p.read
 
 -- whatever follows
 abbrev pub always : Words → Type 0

@@ -11,17 +11,17 @@ abbrev pub is_apart : Word → Bool
 is_apart v = not (bytes_eq v (codes "(") || bytes_eq v (codes ")"))
 
 -- a word is no parenthesis, and a term fits somewhere
-abbrev pub IsEntry : Entry → Type 0
-IsEntry (word v) = IsTrue (is_apart v.now)
-IsEntry (Number n) = Unit {0}
-IsEntry (Numbers ns) = Unit {0}
-IsEntry (Bytes bs) = Unit {0}
-IsEntry (Term letter t) = FitsSomewhere t.now
-IsEntry (Terms letter ts) = All FitsSomewhere ts.now
+abbrev pub IsLineEntry : Entry → Type 0
+IsLineEntry (word v) = IsTrue (is_apart v.now)
+IsLineEntry (Number n) = Unit {0}
+IsLineEntry (Numbers ns) = Unit {0}
+IsLineEntry (Bytes bs) = Unit {0}
+IsLineEntry (Term letter t) = FitsSomewhere t.now
+IsLineEntry (Terms letter ts) = All FitsSomewhere ts.now
 
 -- each of a line's entries may stand there
 abbrev pub AreEntries : List Entry → Type 0
-AreEntries entries = AllByRecursion IsEntry entries
+AreEntries entries = AllByRecursion IsLineEntry entries
 
 -- the words of an entry
 abbrev pub entry_words : Entry → Words

@@ -1,9 +1,13 @@
 -- Pieces of a text: how a value is spelled, which values are good, and how one is read.
-use Rattle.std.specs.Prelude.{◌≡◌, ℕ, zero, suc, ◌≤◌, ◌<◌, Bool, false, ◌&&◌, nat_le, nat_lt, if◌then◌else◌, List, []}
-use Rattle.std.specs.Prelude.{◌∷◌}
+use Rattle.std.specs.Prelude.{◌≡◌, ℕ, zero, suc, ◌+◌, ◌≤◌, ◌<◌, Bool, false, ◌&&◌, nat_le, nat_lt, if◌then◌else◌, List}
+use Rattle.std.specs.Prelude.{[], ◌∷◌}
 use Rattle.std.specs.Prelude.{◌++◌, length, Option, Some, None, Result, Ok, Err, bytes_eq, codes, decimal, IsTrue, ◌⊎◌}
 use Rattle.std.proofs.Common.{inl, inr}
 use Rattle.am_text.specs.Tokens.{Left, words}
+use Rattle.am_syntax.specs.declared.numbers.End.{End}
+use Rattle.am_syntax.specs.declared.numbers.End.TheVariants.{Before, With}
+use Rattle.am_syntax.specs.declared.otherwise.Otherwise.{Otherwise}
+use Rattle.am_syntax.specs.declared.otherwise.Otherwise.TheVariants as otherwise
 use Rattle.am_syntax.specs.declared.refusal.Cause.{Cause}
 use Rattle.am_syntax.specs.declared.refusal.Cause.TheVariants.{Syntax, Number, Count}
 use Rattle.am_syntax.specs.Numerals.{is_canonical, is_digits, is_name, number_of}
@@ -41,33 +45,45 @@ key word = key_or syntax word
 abbrev pub count : Word → Cause
 count v = Count
 
+-- one name too many; any other word is wrong
+abbrev pub name_too_many : Word → Cause
+name_too_many v = if is_name v then Count else Syntax
+
+-- this word comes too early, so something is missing; any other word is wrong
+abbrev pub too_early : Word → Word → Cause
+too_early word v = if bytes_eq v word then Count else Syntax
+
+-- why another token is refused
+abbrev pub cause_of : Otherwise → Word → Cause
+cause_of otherwise.Syntax v = Syntax
+cause_of otherwise.Count v = Count
+cause_of otherwise.NameTooMany v = name_too_many v
+cause_of (otherwise.TooEarly word) v = too_early word.now v
+
 -- the parenthesis after the last argument of an operator
 abbrev pub closing : Piece (Unit {0})
 closing = key_or count (codes ")")
 
--- a canonical row of digits, for a number from least to most
-abbrev pub number_judge : ℕ → ℕ → Word → Result ℕ Cause
-number_judge least most v =
-    if is_digits v
-    then (if is_canonical v && nat_le least (number_of v) && nat_le (number_of v) most then Ok
-    (number_of v) else Err Number)
-    else Err Syntax
-
--- a numeral from least to most
-unfoldable pub number : ℕ → ℕ → Piece ℕ
-number least most = token (number_judge least most) decimal (λ n. (least ≤ n) × (n ≤ most))
-
 -- a canonical row of digits, for a number from least on and below count
-abbrev pub below_judge : ℕ → ℕ → Word → Result ℕ Cause
-below_judge least count v =
+abbrev pub number_judge : ℕ → ℕ → Word → Result ℕ Cause
+number_judge least count v =
     if is_digits v
     then (if is_canonical v && nat_le least (number_of v) && nat_lt (number_of v) count then Ok
     (number_of v) else Err Number)
     else Err Syntax
 
+-- the least number after a range that ends so
+abbrev pub end_of : End → ℕ
+end_of (With most) = most + 1
+end_of (Before count) = count
+
+-- a numeral from least to most
+unfoldable pub number : ℕ → ℕ → Piece ℕ
+number least most = token (number_judge least (most + 1)) decimal (λ n. (least ≤ n) × (n ≤ most))
+
 -- a numeral from least on, below count
 unfoldable pub below : ℕ → ℕ → Piece ℕ
-below least count = token (below_judge least count) decimal (λ n. (least ≤ n) × (n < count))
+below least count = token (number_judge least count) decimal (λ n. (least ≤ n) × (n < count))
 
 -- a name
 abbrev pub name_judge : (Word → Cause) → Word → Result Word Cause
@@ -104,6 +120,14 @@ keyed_or cause word p = record {
 abbrev pub keyed : {X : Type 0} → Word → Piece X → Piece X
 keyed word p = keyed_or syntax word p
 
+-- a key word and a numeral from least to most
+abbrev pub keyed_number : Word → ℕ → ℕ → Piece ℕ
+keyed_number word least most = keyed word (number least most)
+
+-- the number of bits of a word
+abbrev pub width : Piece ℕ
+width = keyed_number (codes "width") 2 8
+
 -- a piece and a key word after it, and why another token is refused in the key word's place
 abbrev pub closed_or : {X : Type 0} → (Word → Cause) → Word → Piece X → Piece X
 closed_or cause word p = record {
@@ -130,6 +154,11 @@ seen_as to from p = record {
 abbrev pub next_is : Word → Words → Bool
 next_is word [] = false
 next_is word (v ∷ vs) = bytes_eq v word
+
+-- whether the next token is a row of digits
+abbrev pub is_number_next : Words → Bool
+is_number_next [] = false
+is_number_next (v ∷ vs) = is_digits v
 
 -- the words of an optional piece: none where its value is missing
 abbrev pub optional_spelled : {X : Type 0} → Word → Piece X → Option X → Words

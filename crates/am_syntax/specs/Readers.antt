@@ -1,6 +1,6 @@
 -- Reading from left to right: a value and what is left, or why the first token of what is left is refused.
-use Rattle.std.specs.Prelude.{◌≡◌, ℕ, List, [], ◌∷◌, drop, Result, Ok, Err}
-use Rattle.am_text.specs.Tokens.{Left, Placed}
+use Rattle.std.specs.Prelude.{◌≡◌, ℕ, suc, ◌<◌, Bool, List, [], ◌∷◌, drop, length, take, Result, Ok, Err}
+use Rattle.am_text.specs.Tokens.{Left, Placed, words}
 use Rattle.am_syntax.specs.declared.refusal.Cause.{Cause}
 use Rattle.am_syntax.specs.declared.refusal.Cause.TheVariants.{Syntax}
 use Rattle.am_syntax.specs.declared.refusal.Failure.{Failure}
@@ -67,12 +67,41 @@ left_by (Err stop) = stop.1
 abbrev pub Advances : {X : Type 0} → Reader X → Type 0
 Advances reader = (s : Left) → Reached s (left_by (reader s))
 
+-- ---- what comes after the token where a reader stops
+
+-- what is left once so many more tokens are taken
+abbrev pub left_after : ℕ → Left → Left
+left_after count s = record { tokens = drop count s.tokens; end = s.end }
+
+-- the same value, or the same cause, with this left
+abbrev pub leaving : {X : Type 0} → Read X → Left → Read X
+leaving (Ok p) left = Ok (p.0, left)
+leaving (Err stop) left = Err (stop.0, left)
+
+-- the first reader stops at this token here, and there are the same words up to it, it included
+pub record StopsAt {X : Type 0} (reader : Reader X) (s u : Left) (at : ℕ) : Type 0 where
+  pub some : at < length s.tokens
+  pub stops : (left_by (reader s)).tokens ≡ drop at s.tokens
+  pub same : take (suc at) (words u) ≡ take (suc at) (words s)
+
+-- two readers come to the same, one here and one there, whatever there follows the token where the first one stops
+abbrev pub ReadAlike : {X : Type 0} → Reader X → Reader X → Left → Left → Type 0
+ReadAlike one two s u = (at : ℕ) → StopsAt one s u at → two u ≡ leaving (one s) (left_after at u)
+
+-- a reader looks no further than the token where it stops
+abbrev pub LooksNoFurther : {X : Type 0} → Reader X → Type 0
+LooksNoFurther reader = (s u : Left) → ReadAlike reader reader s u
+
+-- a test of what is left looks at the next token alone
+abbrev pub LooksAtNext : (Words → Bool) → Type 0
+LooksAtNext test = (v : Word) (vs ws : Words) → test (v ∷ vs) ≡ test (v ∷ ws)
+
 -- ---- what functions return
 
 -- what a function returned, seen by view, and what it left: just what a reader reads
-abbrev pub Gives : {X Y : Type 0} → (X → Y) → Result X Cause → Left → Left → Reader Y → Type 0
-Gives view (Ok x) old new reader = reader old ≡ Ok (view x, new)
-Gives view (Err cause) old new reader = reader old ≡ Err (cause, new)
+abbrev pub GivesRead : {X Y : Type 0} → (X → Y) → Result X Cause → Left → Left → Reader Y → Type 0
+GivesRead view (Ok x) old new reader = reader old ≡ Ok (view x, new)
+GivesRead view (Err cause) old new reader = reader old ≡ Err (cause, new)
 
 -- the same of a function that takes memory; where it found none, nothing is said of the reader
 abbrev pub Makes : {X Y : Type 0} → (X → Y) → Result X Failure → Left → Left → Reader Y → Type 0

@@ -55,7 +55,7 @@ pub record IsScope (scope : Scope) : Type 0 where
   pub variables : scope.variables < 2 ^ 64
 
 -- a term that may stand here, of so many nodes and parentheses in one another at most
-pub record IsWithin (scope : Scope) (depth room : ℕ) (t : Term) : Type 0 where
+pub record IsTermWithin (scope : Scope) (depth room : ℕ) (t : Term) : Type 0 where
   pub fit : fits scope.width scope.variables t ≡ true
   pub few : nodes t ≤ room
   pub flat : nesting t ≤ depth

@@ -9,7 +9,7 @@ use Rattle.am_syntax.specs.declared.limits.TermLimits.{TermLimits}
 use Rattle.am_syntax.specs.declared.refusal.Cause.{Cause}
 use Rattle.am_syntax.specs.declared.refusal.Cause.TheVariants.{Syntax, Number, Name, Count}
 use Rattle.am_syntax.specs.Numerals.{is_canonical, is_capital, is_digits, is_numeral, number_of}
-use Rattle.am_syntax.specs.Spelling.{IsWithin, Scope, letter_code, scope_of, term_words}
+use Rattle.am_syntax.specs.Spelling.{IsTermWithin, Scope, letter_code, scope_of, term_words}
 use Rattle.am_syntax.specs.Readers.{◌>>=◌, Reader, Word, done, judged}
 use Rattle.am_syntax.specs.Pieces.{Piece, closing, times_from}
 use Rattle.am_syntax.specs.Names.{operator}
@@ -70,7 +70,7 @@ term_at scope inside (suc depth) room =
 abbrev pub term_within : Scope → Bool → ℕ → ℕ → Piece Term
 term_within scope inside depth room = record {
   spell = term_words (letter_code scope.letter);
-  Good = IsWithin scope depth room;
+  Good = IsTermWithin scope depth room;
   read = term_at scope inside depth room;
 }
 

@@ -1,5 +1,5 @@
 -- Whole texts, and what is answered at a text's edge: a refusal with its place.
-use Rattle.std.specs.Prelude.{◌≡◌, ℕ, List, [], ◌∷◌, Option, Some, None, Result, Ok, Err, ◌⊎◌}
+use Rattle.std.specs.Prelude.{◌≡◌, ℕ, suc, List, [], ◌∷◌, take, Option, Some, None, Result, Ok, Err, ◌⊎◌}
 use Rattle.am_text.specs.Tokens.{Left, Placed, bad_byte, next_place, text_left, words_of}
 use Rattle.am_syntax.specs.declared.refusal.Cause.{Cause}
 use Rattle.am_syntax.specs.declared.refusal.Cause.TheVariants as cause
@@ -10,7 +10,7 @@ use Rattle.am_syntax.specs.declared.refusal.Refusal.TheVariants.{BadByte, Syntax
 use Rattle.am_syntax.specs.declared.refusal.ReadError.{ReadError}
 use Rattle.am_syntax.specs.declared.refusal.ReadError.TheVariants.{Refused, NoMemory}
 use Rattle.am_syntax.specs.Pieces.{Piece}
-use Rattle.am_syntax.specs.Readers.{Read, Reader}
+use Rattle.am_syntax.specs.Readers.{Read, Reader, StopsAt}
 
 -- a cause with the place of the token that it refuses
 abbrev pub refusal_at : Cause → ℕ → Refusal
@@ -62,13 +62,17 @@ whole (Ok x) = ended x.0 x.1.tokens
 whole (Err stop) = Err (refusal_at stop.0 (next_place stop.1))
 
 -- a text with a bad byte is refused there, and another one is read
-abbrev pub opened : {X : Type 0} → Piece X → List ℕ → Option ℕ → Result X Refusal
-opened p text (Some place) = Err (BadByte place)
-opened p text None = whole (p.read (text_left text))
+abbrev pub opened : {X : Type 0} → Reader X → List ℕ → Option ℕ → Result X Refusal
+opened reader text (Some place) = Err (BadByte place)
+opened reader text None = whole (reader (text_left text))
 
--- the value of a text, or the first refusal: of its bytes, then of its tokens
-unfoldable pub text_value : {X : Type 0} → Piece X → List ℕ → Result X Refusal
-text_value p text = opened p text (bad_byte text)
+-- what is read from a whole text, or the first refusal: of its bytes, then of its tokens
+unfoldable pub read_whole : {X : Type 0} → Reader X → List ℕ → Result X Refusal
+read_whole reader text = opened reader text (bad_byte text)
+
+-- the value of a text, or its first refusal
+abbrev pub text_value : {X : Type 0} → Piece X → List ℕ → Result X Refusal
+text_value p text = read_whole p.read text
 
 -- what was read, where nothing stands after it, or a failure with the place where the cursor stands
 abbrev pub ended_so : {X : Type 0} → X → List Placed → Result X ReadError
@@ -76,16 +80,27 @@ ended_so x [] = Ok x
 ended_so x (t ∷ ts) = Err (Refused (Syntax t.place))
 
 -- the answer at the end of a text: a value is refused where something stands after it
-abbrev pub closed : {X : Type 0} → Left → Result X Failure → Result X ReadError
-closed left (Ok x) = ended_so x left.tokens
-closed left (Err (failure.Refused cause)) = Err (Refused (refusal_at cause (next_place left)))
-closed left (Err failure.NoMemory) = Err NoMemory
+abbrev pub answer_at_end : {X : Type 0} → Left → Result X Failure → Result X ReadError
+answer_at_end left (Ok x) = ended_so x left.tokens
+answer_at_end left (Err (failure.Refused cause)) = Err (Refused (refusal_at cause (next_place left)))
+answer_at_end left (Err failure.NoMemory) = Err NoMemory
+
+-- a text is one value's at most
+abbrev pub HasOneValue : {X : Type 0} → Piece X → List ℕ → Type 0
+HasOneValue {X = X} p text = (x y : X) → IsTextOf p text x → IsTextOf p text y → x ≡ y
 
 -- a text is some value's and has no refusal, or it is none's and has one
-abbrev pub IsSettled : {X : Type 0} → Piece X → List ℕ → Type 0
-IsSettled {X = X} p text =
+abbrev pub IsSettledText : {X : Type 0} → Piece X → List ℕ → Type 0
+IsSettledText {X = X} p text =
     ((x : X) × IsTextOf p text x × ((r : Refusal) → text_value p text ≡ Err r → ⊥)) ⊎
     ((r : Refusal) × (text_value p text ≡ Err r) × ((x : X) → IsTextOf p text x → ⊥))
+
+-- a text of allowed bytes that is refused at a token, by its number, is refused for good: no text of this kind has the
+-- same words up to that token, it included, whatever follows
+abbrev pub RefusesForGood : {X : Type 0} → Reader X → (List ℕ → Type 0) → Type 0
+RefusesForGood reader IsText =
+    (text other : List ℕ) (r : Refusal) (at : ℕ) → bad_byte text ≡ None → read_whole reader text ≡ Err r →
+    StopsAt reader (text_left text) (text_left other) at → IsText other → ⊥
 
 -- what a function answered, seen by view: this, unless memory ran out
 abbrev pub Answers : {X Y : Type 0} → (X → Y) → Result X ReadError → Result Y Refusal → Type 0

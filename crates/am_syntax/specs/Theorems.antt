@@ -9,7 +9,7 @@ use Rattle.am_syntax.specs.Names.{operator}
 use Rattle.am_syntax.specs.Pieces.{name, number}
 use Rattle.am_syntax.specs.Spelling.{IsScope, letter_code, scope_of, term_words}
 use Rattle.am_syntax.specs.Terms.{term}
-use Rattle.am_syntax.specs.Texts.{IsSettled, text_value}
+use Rattle.am_syntax.specs.Texts.{HasOneValue, IsSettledText, IsTextOf, RefusesForGood, text_value}
 
 -- a numeral is read exactly where one in the range is spelled, a name where a name is, an operator where its name is
 abbrev pub NumbersAreExact : Type 0
@@ -30,7 +30,18 @@ TermsAreExact = (w : ℕ) (limits : TermLimits) → IsScope (scope_of w limits) 
 -- a text is a term's, within limits, or has a first refusal, and not both
 abbrev pub TermTextsAreSettled : Type 0
 TermTextsAreSettled =
-    (w : ℕ) (limits : TermLimits) → IsScope (scope_of w limits) → (text : List ℕ) → IsSettled (term w limits) text
+    (w : ℕ) (limits : TermLimits) → IsScope (scope_of w limits) → (text : List ℕ) → IsSettledText (term w limits) text
+
+-- a text is one term's at most
+abbrev pub TextsHaveOneTerm : Type 0
+TextsHaveOneTerm =
+    (w : ℕ) (limits : TermLimits) → IsScope (scope_of w limits) → (text : List ℕ) → HasOneValue (term w limits) text
+
+-- a token that is refused in the text of a term is refused whatever follows it
+abbrev pub TermTextsAreRefusedForGood : Type 0
+TermTextsAreRefusedForGood =
+    (w : ℕ) (limits : TermLimits) → IsScope (scope_of w limits) →
+    RefusesForGood (term w limits).read (λ text. (t : Term) × IsTextOf (term w limits) text t)
 
 -- what was printed has the words of the term, and reads back
 abbrev pub PrintedTermsReadBack : Type 0

@@ -7,6 +7,7 @@ ghost use Rattle.am_syntax.specs.Pieces.{MovesOn, repeat_from, times_from};
 ghost use Rattle.am_syntax.specs.Readers.{Makes};
 
 use crate::ahead::follow;
+use crate::judge::{Judge, take};
 use crate::refusal::Failure;
 use am_bv::Row;
 use am_text::Cursor;
@@ -58,6 +59,35 @@ pub trait Listed<'a>: Item<'a> {
     /// Whether an item comes.
     fn comes(&self, text: &Cursor<'a>) -> bool
         ensures { result ≡ goes (words text.now) };
+}
+
+/// Tokens of one judge, one after the other.
+#[derive(Clone, Copy)]
+pub struct Each<J> {
+    pub judge: J,
+}
+
+impl<'a, J: Judge<'a>> Item<'a> for Each<J> {
+    ghost use Rattle.am_syntax.specs.Readers.{judged};
+
+    type Value = J::Value;
+
+    ghost Shown = { J.Shown };
+
+    ghost view = { J.view };
+
+    ghost reads = { λ own _. judged (J.verdict own.judge) };
+
+    ghost can = { λ _. Unit {0} };
+
+    fn read(
+        &self,
+        _alloc: Global,
+        text: &mut Cursor<'a>,
+        _seen: &[J::Value],
+    ) -> Result<J::Value, Failure> {
+        Ok(take(text, &self.judge)?)
+    }
 }
 
 fn read_times_ahead<'a, I: Item<'a>>(

@@ -1,7 +1,7 @@
 //! Taking the next token by a judge's verdict.
 
-ghost use Rattle.std.specs.Prelude.{IfOk};
-ghost use Rattle.am_syntax.specs.Readers.{Gives, Says, judged};
+ghost use Rattle.std.specs.Prelude.{Err, IfOk, OnOk};
+ghost use Rattle.am_syntax.specs.Readers.{GivesRead, Says, judged};
 
 use crate::refusal::Cause;
 use am_text::Cursor;
@@ -37,7 +37,7 @@ pub trait Judge<'a> {
 ///
 /// The judge's verdict, or `Syntax` at the end of the text. The cursor stays.
 pub fn take<'a, J: Judge<'a>>(text: &mut Cursor<'a>, judge: &J) -> Result<J::Value, Cause>
-    ensures value { Gives J.view result text.old text.new (judged (J.verdict judge.now)) }
+    ensures value { GivesRead J.view result text.old text.new (judged (J.verdict judge.now)) }
     ensures known { IfOk result (J.known judge.now) }
 {
     let mut behind = text.fork();
@@ -47,4 +47,41 @@ pub fn take<'a, J: Judge<'a>>(text: &mut Cursor<'a>, judge: &J) -> Result<J::Val
     let value = judge.judge(token.text)?;
     *text = behind;
     Ok(value)
+}
+
+/// No token.
+#[derive(Clone, Copy)]
+struct Nothing {
+    /// Why each is refused.
+    cause: Cause,
+}
+
+impl<'a> Judge<'a> for Nothing {
+    ghost use Rattle.std.specs.Prelude.{Err};
+
+    type Value = ();
+
+    ghost Shown = { Unit {0} };
+
+    ghost view = { λ _. tt };
+
+    ghost verdict = { λ own _. Err own.cause };
+
+    ghost known = { λ _ _. ⊥ };
+
+    fn judge(&self, _word: &'a [u8]) -> Result<(), Cause> {
+        Err(self.cause)
+    }
+}
+
+/// Refuses the next token, whatever it is, for this cause.
+///
+/// # Errors
+///
+/// Always: the cause, or `Syntax` at the end of the text. The cursor stays.
+pub fn refuse_next(text: &mut Cursor<'_>, cause: Cause) -> Result<(), Cause>
+    ensures value { GivesRead (λ _. tt) result text.old text.new (judged {X = Unit {0}} (λ _. Err cause)) }
+    ensures never { OnOk result ⊥ }
+{
+    take(text, &Nothing { cause })
 }

@@ -9,15 +9,17 @@
 //! [`read_times`] and [`read_list`]. It answers exactly what the piece reads.
 //!
 //! A refusal is born at one place, the verdict of a [`Judge`] on one token, and carries no place:
-//! the cursor stays at the refused token, and [`Cause::at`] adds the place at the edge.
+//! the cursor stays at the refused token, and [`Cause::at`] adds the place at the edge. Key words,
+//! numbers and nonterminals have one judge each: [`Key`], [`Number`] and [`Name`]; [`Otherwise`]
+//! says why another token is refused in the place of a key word or of a nonterminal.
 //!
 //! ```text
-//! /// `width` and the number of bits.
-//! fn read_width(text: &mut Cursor<'_>) -> Result<u64, Cause>
-//!     ensures { Gives (λ n. n) result text.old text.new (keyed (codes "width") (number 2 8)).read }
+//! /// `turns` and the number of turns.
+//! fn take_turns(text: &mut Cursor<'_>) -> Result<u64, Cause>
+//!     ensures { Gives (λ n. n) result text.old text.new (keyed (codes "turns") (number 0 4096)).read }
 //! {
-//!     take_key(text, b"width")?;
-//!     take_number(text, 2, 8)
+//!     take_key(text, b"turns")?;
+//!     take_number(text, 0, 4096)
 //! }
 //! ```
 //!
@@ -46,31 +48,36 @@
 mod ahead;
 mod item;
 mod judge;
+mod keys;
 mod limits;
 mod lines;
 mod names;
+mod nonterminals;
+mod numbers;
 mod numerals;
+mod otherwise;
 mod print;
 mod reading;
 mod refusal;
 mod terms;
 mod text;
 pub mod theorems;
-mod words;
 
 pub use ahead::follow;
-pub use item::{Item, Listed, read_list, read_times};
-pub use judge::{Judge, take};
+pub use item::{Each, Item, Listed, read_list, read_times};
+pub use judge::{Judge, refuse_next, take};
+pub use keys::{Key, is_next, take_closing, take_key, take_key_or};
 pub use limits::{Letter, TermLimits};
 pub use lines::{Entry, print_line, print_word};
 pub use names::{Operator, no_name, op_name, op_named, take_operator};
+pub use nonterminals::{Name, take_name};
+pub use numbers::{
+    End, Number, is_number_next, take_below, take_keyed_number, take_number, take_width,
+};
 pub use numerals::{is_digits, is_name};
+pub use otherwise::Otherwise;
 pub use print::print_term;
 pub use reading::{read_name, read_number, read_term};
 pub use refusal::{Cause, Failure, ReadError, Refusal};
 pub use terms::take_term;
 pub use text::{close, open, placed};
-pub use words::{
-    Below, Closing, Each, Key, Name, Number, is_next, refuse_next, take_below, take_closing,
-    take_key, take_name, take_number,
-};

@@ -1,8 +1,8 @@
 //! Printing of lines.
 
 ghost use Rattle.std.specs.Prelude.{◌∷◌, All, IsTrue, decimal, flat_map};
-ghost use Rattle.am_syntax.specs.Canonical.{Appends, after, line, term_text};
-ghost use Rattle.am_syntax.specs.Lines.{AreEntries, IsEntry, entry_words, is_apart, words_of_entries};
+ghost use Rattle.am_syntax.specs.Canonical.{Appends, line, spaced_after, term_text};
+ghost use Rattle.am_syntax.specs.Lines.{AreEntries, IsLineEntry, entry_words, is_apart, words_of_entries};
 ghost use Rattle.am_syntax.specs.Spelling.{FitsSomewhere, letter_code};
 
 use crate::limits::Letter;
@@ -90,8 +90,8 @@ fn print_arguments(out: &mut Writer, letter: Letter, terms: &[Term]) -> Result<(
 
 /// Appends an entry.
 fn print_entry(out: &mut Writer, entry: &Entry<'_>) -> Result<(), AllocError>
-    requires { IsEntry entry.now }
-    ensures { Appends result out.old out.new (after (entry_words entry.now)) }
+    requires { IsLineEntry entry.now }
+    ensures { Appends result out.old out.new (spaced_after (entry_words entry.now)) }
 {
     match entry {
         Entry::Word(word) => print_word(out, word),

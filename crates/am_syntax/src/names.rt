@@ -2,7 +2,7 @@
 
 ghost use Rattle.std.specs.Prelude.{◌≡◌};
 ghost use Rattle.am_syntax.specs.Names.{no_name, op_name, op_named, operator};
-ghost use Rattle.am_syntax.specs.Readers.{Gives};
+ghost use Rattle.am_syntax.specs.Readers.{GivesRead};
 
 use crate::judge::{Judge, take};
 use crate::refusal::Cause;
@@ -90,7 +90,7 @@ impl<'a> Judge<'a> for Operator {
 /// Takes the name of an operator.
 #[tactic(auto, unfolding(crate::specs::Names::operator))]
 pub fn take_operator(text: &mut Cursor<'_>) -> Result<Op, Cause>
-    ensures { Gives (λ op. op) result text.old text.new operator.read }
+    ensures { GivesRead (λ op. op) result text.old text.new operator.read }
 {
     take(text, &Operator)
 }

@@ -5,10 +5,11 @@ ghost use Rattle.am_syntax.specs.Terms.{term};
 ghost use Rattle.am_syntax.specs.Texts.{GivesAt, MakesAt};
 
 use crate::limits::TermLimits;
+use crate::nonterminals::take_name;
+use crate::numbers::take_number;
 use crate::refusal::{ReadError, Refusal};
 use crate::terms::take_term;
 use crate::text::placed;
-use crate::words::{take_name, take_number};
 use am_bv::{Term, Width};
 use am_text::Cursor;
 use std::alloc::Global;

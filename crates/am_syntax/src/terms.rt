@@ -6,18 +6,18 @@ ghost use Rattle.am_bv.specs.Terms.{nodes};
 ghost use Rattle.am_syntax.specs.declared.refusal.Cause.TheVariants.{Name};
 ghost use Rattle.am_syntax.specs.declared.refusal.Failure.TheVariants.{NoMemory};
 ghost use Rattle.am_syntax.specs.Numerals.{number_of};
-ghost use Rattle.am_syntax.specs.Readers.{Gives, Makes, judged};
+ghost use Rattle.am_syntax.specs.Readers.{GivesRead, Makes, judged};
 ghost use Rattle.am_syntax.specs.Spelling.{scope_of};
 ghost use Rattle.am_syntax.specs.Terms.{begins_capital, constant_judge, head_judge, leaf_judge};
 ghost use Rattle.am_syntax.specs.Terms.{term, term_at, variable_judge, within};
 
 use crate::ahead::follow;
 use crate::judge::{Judge, take};
+use crate::keys::take_closing;
 use crate::limits::TermLimits;
 use crate::names::take_operator;
 use crate::numerals;
 use crate::refusal::{Cause, Failure};
-use crate::words::take_closing;
 use am_bv::{Row, Term, Width};
 use am_text::Cursor;
 use std::alloc::Global;
@@ -157,7 +157,7 @@ fn take_head(
     room: u64,
 ) -> Result<Option<Term>, Cause>
     ensures value { let head = head_judge (scope_of w limits.now) inside depth room in
-        Gives (λ h. h) result text.old text.new (judged head) }
+        GivesRead (λ h. h) result text.old text.new (judged head) }
     ensures room { OnOk result (0 < room) }
     ensures deeper { result ≡ Ok None → 0 < depth }
 {

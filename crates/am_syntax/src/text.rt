@@ -3,7 +3,7 @@
 ghost use Rattle.std.specs.Prelude.{◌≡◌, IfErr, IfOk, None, OnOk, Some};
 ghost use Rattle.am_text.specs.Tokens.{bad_byte, text_left};
 ghost use Rattle.am_syntax.specs.declared.refusal.Refusal.TheVariants.{BadByte};
-ghost use Rattle.am_syntax.specs.Texts.{closed, placed};
+ghost use Rattle.am_syntax.specs.Texts.{answer_at_end, placed};
 
 use crate::refusal::{Failure, ReadError, Refusal};
 use am_text::{Cursor, Tokens};
@@ -42,7 +42,7 @@ pub fn placed<T>(read: Result<T, Failure>, text: &Cursor<'_>) -> Result<T, ReadE
 /// Why nothing was read, with the place of the refused token, or `Syntax` at a token after the
 /// value.
 pub fn close<T: Drop>(read: Result<T, Failure>, text: &Cursor<'_>) -> Result<T, ReadError>
-    ensures { result ≡ closed text.now read }
+    ensures { result ≡ answer_at_end text.now read }
 {
     let value = placed(read, text)?;
     match text.peek() {

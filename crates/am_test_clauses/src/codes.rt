@@ -1,34 +1,17 @@
-//! Clauses, each given by the codes of its literals.
+//! Codes of literals as a text, and as a checksum.
 
-ghost use Rattle.std.specs.Prelude.{◌≡◌};
+use am_lit::Lit;
+use std::alloc::{AllocError, Global};
 
-use am_lit::{Formula, Lit};
-
-/// Whether these are the codes of a clause's literals.
-pub fn has_codes(clause: &[Lit], codes: &[u32]) -> bool {
-    if clause.len() != codes.len() {
-        return false;
+/// The codes of some literals.
+pub fn codes(alloc: Global, literals: &[Lit]) -> Result<String, AllocError> {
+    let mut codes = String::new(alloc);
+    for l in literals {
+        let space = if codes.is_empty() { "" } else { " " };
+        let code = l.code();
+        codes.push_str(format!(in alloc; "{space}{code}")?.as_str())?;
     }
-    for i in 0..clause.len() {
-        if clause[i].code() != codes[i] {
-            return false;
-        }
-    }
-    true
-}
-
-/// Whether these are the codes of the formula's clauses, in order.
-pub fn has_clauses(formula: &Formula, clauses: &[&[u32]]) -> bool {
-    let len = formula.clauses.len();
-    if len as usize != clauses.len() {
-        return false;
-    }
-    for i in 0..len {
-        if !has_codes(formula.clauses.clause(i), clauses[i as usize]) {
-            return false;
-        }
-    }
-    true
+    Ok(codes)
 }
 
 /// A checksum, and then the codes of some literals.

@@ -217,22 +217,6 @@ fn threes(alloc: Global, seed: u32) -> Result<Formula, Fail> {
 }
 
 #[test]
-fn four_clauses_are_refuted(rt: HostRuntime) -> Result<(), Fail> {
-    let alloc = rt.alloc();
-    let mut maker = Maker::new(alloc);
-    maker.add([0, 2].as_slice())?;
-    assert_eq!(rt; judge(alloc, &maker.formula(2)?, 2, 9)?, Verdict::Sat);
-    let mut maker = Maker::new(alloc);
-    maker.add([0, 2].as_slice())?;
-    maker.add([1, 2].as_slice())?;
-    maker.add([0, 3].as_slice())?;
-    maker.add([1, 3].as_slice())?;
-    let is_unsat = matches!(judge(alloc, &maker.formula(2)?, 2, 9)?, Verdict::Unsat(_));
-    assert!(rt; is_unsat);
-    Ok(())
-}
-
-#[test]
 fn a_limit_is_kept(rt: HostRuntime) -> Result<(), Fail> {
     let alloc = rt.alloc();
     let formula = all_signs(alloc)?;

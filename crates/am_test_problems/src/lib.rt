@@ -1,4 +1,4 @@
-//! Tests of words, domains, streams, texts and problems, with values of an independent reference.
+//! Tests of words, domains, grammars, streams, texts and problems, with values of an independent reference.
 //!
 //! They stand apart from the crates that they test, since a crate with tests is proved twice, once with them and once
 //! without. They use public calls alone.
@@ -7,9 +7,9 @@
 #[cfg(test)]
 mod domains;
 #[cfg(test)]
-mod examples;
-#[cfg(test)]
 mod generator;
+#[cfg(test)]
+mod grammars;
 #[cfg(test)]
 mod streams;
 #[cfg(test)]

@@ -1,8 +1,8 @@
-//! What a sink is offered, and the texts of errors.
+//! What a sink is offered, streams in memory that fail, and the texts of errors.
 
 ghost use Rattle.std.specs.Prelude.{None};
 
-use am_io::{Failed, ReadEnd, Sink, write_all};
+use am_io::{Failed, MemorySink, MemorySource, ReadEnd, Sink, read_all, write_all};
 use std::test::Fail;
 
 /// A sink that takes two bytes of each piece and keeps how long the pieces were.
@@ -44,6 +44,23 @@ fn each_put_gets_all_that_is_left(rt: HostRuntime) {
     };
     assert!(rt; write_all(&mut sink, b"abcde").is_ok());
     assert_eq!(rt; sink.pieces, [5, 3, 1]);
+}
+
+#[test]
+fn a_source_in_memory_fails_at_its_call(rt: HostRuntime) -> Result<(), Fail> {
+    let bytes = b"abcde".to_vec(rt.alloc())?;
+    let mut source = MemorySource::new(bytes, 2, [2].to_vec(rt.alloc())?);
+    let end = read_all(rt.alloc(), &mut source, 9).err();
+    assert_eq!(rt; end, Some(ReadEnd::ReadFault));
+    Ok(())
+}
+
+#[test]
+fn a_sink_in_memory_keeps_what_it_took(rt: HostRuntime) -> Result<(), Fail> {
+    let mut sink = MemorySink::new(rt.alloc(), 9, 2, [1].to_vec(rt.alloc())?)?;
+    assert!(rt; write_all(&mut sink, b"abcde").is_err());
+    assert_eq!(rt; sink.taken(), b"ab".as_slice());
+    Ok(())
 }
 
 #[test]

@@ -1,4 +1,4 @@
-//! Tests of the queries and of what stands on them, but for the program, with values of an independent reference.
+//! Tests of the queries and of what stands on them, with values of an independent reference.
 //!
 //! They stand apart from the crates that they test, since a crate with tests is proved twice, once with them and once
 //! without. They use public calls alone.
@@ -6,6 +6,8 @@
 
 #[cfg(test)]
 mod asked;
+#[cfg(test)]
+mod keeping;
 #[cfg(test)]
 mod limits;
 #[cfg(test)]
@@ -16,9 +18,3 @@ mod queries;
 mod query_cases;
 #[cfg(test)]
 mod small_problems;
-#[cfg(test)]
-mod solved;
-#[cfg(test)]
-mod turns;
-#[cfg(test)]
-mod worked;

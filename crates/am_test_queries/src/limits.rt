@@ -7,29 +7,23 @@ use am_problem::{
     LAST_PROBLEM, MOST_CONFLICTS, MOST_INPUTS, MOST_LOAD, MOST_NODES, MOST_SLOTS, MOST_TURNS,
 };
 use am_tree::{MOST_DEPTH, MOST_LEAF_NODES, MOST_PRODUCTIONS, MOST_RULES, MOST_STARTS};
-use std::test::Fail;
 
-#[test]
-fn grammars_have_these_limits(rt: HostRuntime) -> Result<(), Fail> {
-    assert_eq!(rt; (MOST_RULES, MOST_PRODUCTIONS, MOST_STARTS), (16, 64, 4));
-    assert_eq!(rt; (MOST_DEPTH, MOST_LEAF_NODES), (5, 64));
-    Ok(())
-}
+const _: () = prove!(MOST_RULES == 16 && MOST_PRODUCTIONS == 64 && MOST_STARTS == 4);
 
-#[test]
-fn problems_have_these_limits(rt: HostRuntime) -> Result<(), Fail> {
-    assert_eq!(rt; (MOST_INPUTS, MOST_NODES), (3, 64));
-    assert_eq!(rt; (MOST_TURNS, MOST_CONFLICTS), (4096, 1_000_000));
-    assert_eq!(rt; (MOST_SLOTS, MOST_LOAD), (256, 16_777_216));
-    assert_eq!(rt; LAST_PROBLEM, 999_999);
-    assert_eq!(rt; (MOST_BITS, MOST_TUPLES), (16, 4096));
-    Ok(())
-}
+const _: () = prove!(MOST_DEPTH == 5 && MOST_LEAF_NODES == 64);
 
-#[test]
-fn certificates_and_flows_have_these_limits(rt: HostRuntime) -> Result<(), Fail> {
-    assert_eq!(rt; (MOST_TERM_NODES, MOST_NESTING), (16_384, 128));
-    assert_eq!(rt; MOST_BYTES, 67_108_864);
-    assert_eq!(rt; (MOST_VARIABLES, MOST_FLOW_NODES, MOST_EDGES), (8, 64, 256));
-    Ok(())
-}
+const _: () = prove!(MOST_INPUTS == 3 && MOST_NODES == 64);
+
+const _: () = prove!(MOST_TURNS == 4096 && MOST_CONFLICTS == 1_000_000);
+
+const _: () = prove!(MOST_SLOTS == 256 && MOST_LOAD == 16_777_216);
+
+const _: () = prove!(LAST_PROBLEM == 999_999);
+
+const _: () = prove!(MOST_BITS == 16 && MOST_TUPLES == 4096);
+
+const _: () = prove!(MOST_TERM_NODES == 16_384 && MOST_NESTING == 128);
+
+const _: () = prove!(MOST_BYTES == 67_108_864);
+
+const _: () = prove!(MOST_VARIABLES == 8 && MOST_FLOW_NODES == 64 && MOST_EDGES == 256);

@@ -3,8 +3,11 @@
 ghost use Rattle.am_query.specs.Queries.{IsQueryOf};
 
 use crate::asked::{examples_of, fitted, precise_answer, sound_answer, transformer};
-use crate::query_cases;
-use crate::query_cases::Case;
+use crate::query_cases::{
+    Case, congruences_and_parities, known_bits, products, read_case, signed_and_wrapped_intervals,
+    unsigned_intervals,
+};
+use crate::small_problems::{COMPLEMENT, INCOMPARABLE};
 use am_lit::{Formula, Lit};
 use am_problem::{Problem, read_problem};
 use am_query::{Query, formula_of, formula_one_of};
@@ -103,53 +106,68 @@ fn problem_of(alloc: Global, lines: &str) -> Result<Problem, Fail> {
     Ok(read_problem(alloc, text.as_bytes())?)
 }
 
-fn check(rt: &impl Abort, alloc: Global, case: &Case) -> Result<(), Fail> {
+fn check(rt: &impl Abort, alloc: Global, case: Case<'_>) -> Result<(), Fail> {
     let p = problem_of(alloc, case.problem)?;
     let said = said(rt, alloc, &p, case.alone, case.given)?;
     assert_eq!(rt; said.as_str(), case.said, "{}", case.problem);
     Ok(())
 }
 
-fn check_all(rt: &impl Abort, alloc: Global, cases: &[Case]) -> Result<(), Fail> {
-    for case in cases {
-        check(rt, alloc, case)?;
+fn check_all(rt: &impl Abort, alloc: Global, cases: &str) -> Result<(), Fail> {
+    for lines in cases.split("\n\n") {
+        check(rt, alloc, read_case(lines).ok_or("no case")?)?;
     }
     Ok(())
 }
 
 #[test]
-fn queries_over_unsigned_intervals_say_what_the_reference_has(rt: HostRuntime) -> Result<(), Fail> {
-    check_all(&rt, rt.alloc(), &query_cases::unsigned_intervals::CASES)
+fn queries_say_what_the_reference_has(rt: HostRuntime) -> Result<(), Fail> {
+    for cases in [
+        unsigned_intervals::CASES,
+        signed_and_wrapped_intervals::CASES,
+        known_bits::CASES,
+        congruences_and_parities::CASES,
+        products::CASES,
+    ] {
+        check_all(&rt, rt.alloc(), cases)?;
+    }
+    Ok(())
+}
+
+/// Examples of the complement that `(not f1)`, `(not f0)` alone satisfies.
+const OPPOSITES: &str = "+12/2 -12/0 -12/3";
+
+/// Examples of the complement that `0`, `3` alone satisfies.
+const CONSTANTS: &str = "+12/0 +12/3";
+
+/// What is said of the three queries of a problem.
+fn said_of(
+    rt: &impl Abort,
+    alloc: Global,
+    text: &str,
+    alone: &str,
+    given: &str,
+) -> Result<String, Fail> {
+    let p = read_problem(alloc, text.as_bytes())?;
+    said(rt, alloc, &p, alone, given)
+}
+
+/// Whether these are the numbers of variables of a query's folded formula and of its plain one.
+fn has_variables(line: &str, folded: &str, plain: &str) -> bool {
+    let mut words = line.split(' ');
+    words.nth(1) == Some(folded) && words.nth(1) == Some(plain)
 }
 
 #[test]
-fn queries_over_signed_and_wrapped_intervals_say_what_the_reference_has(
-    rt: HostRuntime,
-) -> Result<(), Fail> {
-    check_all(
-        &rt,
-        rt.alloc(),
-        &query_cases::signed_and_wrapped_intervals::CASES,
-    )
-}
-
-#[test]
-fn queries_over_known_bits_say_what_the_reference_has(rt: HostRuntime) -> Result<(), Fail> {
-    check_all(&rt, rt.alloc(), &query_cases::known_bits::CASES)
-}
-
-#[test]
-fn queries_over_congruences_and_parities_say_what_the_reference_has(
-    rt: HostRuntime,
-) -> Result<(), Fail> {
-    check_all(
-        &rt,
-        rt.alloc(),
-        &query_cases::congruences_and_parities::CASES,
-    )
-}
-
-#[test]
-fn queries_over_products_say_what_the_reference_has(rt: HostRuntime) -> Result<(), Fail> {
-    check_all(&rt, rt.alloc(), &query_cases::products::CASES)
+fn formulas_have_their_variables(rt: HostRuntime) -> Result<(), Fail> {
+    for (text, alone, given, place, folded, plain) in [
+        (INCOMPARABLE, "-22/1", "-22/1", 0, "6", "30"),
+        (COMPLEMENT, OPPOSITES, "", 1, "34", "47"),
+        (COMPLEMENT, CONSTANTS, "", 2, "41", "62"),
+    ] {
+        let said = said_of(&rt, rt.alloc(), text, alone, given)?;
+        let line = said.lines().nth(place).unwrap_or("");
+        assert!(rt; has_variables(line, folded, plain), "{said}");
+    }
+    Ok(())
 }

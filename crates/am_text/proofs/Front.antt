@@ -150,21 +150,21 @@ tokens_at-first at (b ∷ bs) long h =
 abbrev Behind : List ℕ → ℕ → List ℕ → Type 0
 Behind bs n rest = (n ≡ prefix_len is_space bs) × (rest ≡ drop n bs)
 
-tokens_at-behind : (at n : ℕ) (bs rest : List ℕ) → Behind bs n rest → tokens_at at bs ≡ tokens_at (at + n) rest
-tokens_at-behind at n bs rest behind =
+tokens_at-after : (at n : ℕ) (bs rest : List ℕ) → Behind bs n rest → tokens_at at bs ≡ tokens_at (at + n) rest
+tokens_at-after at n bs rest behind =
     tokens_at-spaces at bs ∙ ap (after at bs) (sym behind.0) ∙ ap (tokens_at (at + n)) (sym behind.1)
 
 -- the next token starts after the spaces in front, where bytes are left there
 pub tokens_at-next : (at n : ℕ) (bs rest : List ℕ) → Behind bs n rest → 0 < length rest →
     tokens_at at bs ≡ token_then (at + n) rest (token_len rest)
 tokens_at-next at n bs rest behind long =
-    tokens_at-behind at n bs rest behind
+    tokens_at-after at n bs rest behind
     ∙ tokens_at-first (at + n) rest long
     (ap (prefix_len is_space) behind.1 ∙ ap (λ k. prefix_len is_space (drop k bs)) behind.0 ∙ row_ends is_space bs)
 
 -- spaces alone have no token
 pub tokens_at-none : (at n : ℕ) (bs rest : List ℕ) → Behind bs n rest → length rest ≡ 0 → tokens_at at bs ≡ []
-tokens_at-none at n bs [] behind none = tokens_at-behind at n bs [] behind
+tokens_at-none at n bs [] behind none = tokens_at-after at n bs [] behind
 tokens_at-none at n bs (b ∷ rest) behind none = absurd (omega arith)
 
 -- ---- seams

@@ -6,7 +6,7 @@ use Rattle.std.specs.List.{prefix_len, suffix_len}
 use Rattle.std.proofs.lemmas.Bool.{cases_Bool}
 use Rattle.std.proofs.lemmas.List.{reverse-append, map-append}
 use Rattle.am_text.specs.Tokens.{Placed, placed, is_space, is_parenthesis, is_word_byte, tokens_at, word_byte_before}
-use Rattle.am_text.specs.Tokens.{words_of, IsWord}
+use Rattle.am_text.specs.Tokens.{words_of, IsTokenWord}
 use Rattle.am_text.proofs.Front.{tokens_at-space, tokens_at-parenthesis, tokens_at-word, tokens_at-front}
 use Rattle.am_text.proofs.Front.{tokens_at-whole, before_word, before_other, by_byte, IsSeam, seam_back}
 use Rattle.am_text.proofs.Rows.{prefix_no, prefix_zero, row_none}
@@ -133,13 +133,13 @@ words_of-parenthesis b bs h k =
     ap words_in (tokens_at-parenthesis 0 b bs h k) ∙ ap (λ ws. (b ∷ []) ∷ ws) (words_anywhere (0 + 1) 0 bs)
 
 -- a word alone
-pub words_of-word : (word : List ℕ) → IsWord word → words_of word ≡ word ∷ []
+pub words_of-word : (word : List ℕ) → IsTokenWord word → words_of word ≡ word ∷ []
 words_of-word [] is = absurd (omega (arith, is.0))
 words_of-word (b ∷ bs) is =
     ap (λ xs. words_of (b ∷ xs)) (sym (append-nil bs)) ∙ ap words_in (tokens_at-whole 0 b bs [] is.1 refl)
 
 -- a word before a byte of no word
-pub words_of-before : (word : List ℕ) (b : ℕ) (bs : List ℕ) → IsWord word → is_word_byte b ≡ false →
+pub words_of-before : (word : List ℕ) (b : ℕ) (bs : List ℕ) → IsTokenWord word → is_word_byte b ≡ false →
     words_of (word ++ b ∷ bs) ≡ word ∷ words_of (b ∷ bs)
 words_of-before word b bs is h =
     words_of-append word (b ∷ bs) (inr (prefix_no is_word_byte b bs h))

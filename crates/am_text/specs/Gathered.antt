@@ -10,7 +10,7 @@ pub record Gathered : Type 0 where
   pub refused : Bool
 
 -- no piece was refused, and the stream's first limit + 1 bytes are held
-pub record Holds (g : Gathered) (stream : List ℕ) : Type 0 where
+pub record HoldsStream (g : Gathered) (stream : List ℕ) : Type 0 where
   pub kept : g.refused ≡ false
   pub first : g.held ≡ take (g.limit + 1) stream
 

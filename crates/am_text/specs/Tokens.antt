@@ -91,8 +91,8 @@ abbrev pub IsParenthesis : List ℕ → Type 0
 IsParenthesis bs = (length bs ≡ 1) × (list_all is_parenthesis bs ≡ true)
 
 -- a byte or more, all of a word
-abbrev pub IsWord : List ℕ → Type 0
-IsWord bs = (0 < length bs) × (list_all is_word_byte bs ≡ true)
+abbrev pub IsTokenWord : List ℕ → Type 0
+IsTokenWord bs = (0 < length bs) × (list_all is_word_byte bs ≡ true)
 
 -- no byte of a word ends the front or begins the back
 abbrev pub IsCut : List ℕ → List ℕ → Type 0
@@ -104,7 +104,7 @@ pub record IsTokenOf (text : List ℕ) (t : Placed) : Type 0 where
   pub back : List ℕ
   pub slice : text ≡ front ++ t.word ++ back
   pub place : length front ≡ t.place
-  pub whole : IsParenthesis t.word ⊎ IsWord t.word × IsCut front back
+  pub whole : IsParenthesis t.word ⊎ IsTokenWord t.word × IsCut front back
 
 -- these are the tokens of a text: in order, and each byte but spaces is in one of them
 pub record AreTokensOf (text : List ℕ) (tokens : List Placed) : Type 0 where

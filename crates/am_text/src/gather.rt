@@ -2,7 +2,7 @@
 
 ghost use Rattle.std.specs.Prelude.{◌≡◌, ◌++◌, ◌-◌, ◌<◌, ◌≤◌, ◌^◌, ◌↔◌, ℕ, List, [], length};
 ghost use Rattle.std.specs.Prelude.{IfOk, IsErr, IsTrue, OnOk};
-ghost use Rattle.am_text.specs.Gathered.{Holds};
+ghost use Rattle.am_text.specs.Gathered.{HoldsStream};
 
 use std::alloc::{AllocError, Global};
 use std::marker::Model;
@@ -46,7 +46,7 @@ impl Gather {
     pub fn new(alloc: Global, limit: usize) -> Gather
         requires { limit < 2 ^ 64 - 1 }
         ensures limit { result.limit ≡ limit }
-        ensures holds { Holds result [] }
+        ensures holds { HoldsStream result [] }
     {
         Gather {
             text: Vec::new(alloc),
@@ -62,7 +62,7 @@ impl Gather {
     /// There was no memory for this piece, or for an earlier one.
     pub fn push(&mut self, piece: &[u8]) -> Result<(), AllocError>
         ensures holds { OnOk result ((stream : List ℕ) →
-            Holds self.old stream → Holds self.new (stream ++ piece.now)) }
+            HoldsStream self.old stream → HoldsStream self.new (stream ++ piece.now)) }
         ensures limit { self.new.limit ≡ self.old.limit }
         ensures refused { IsErr result ↔ IsTrue self.new.refused }
         ensures stays { IsTrue self.old.refused → IsTrue self.new.refused }
@@ -83,9 +83,9 @@ impl Gather {
     /// - `Long`: the stream has more bytes than the limit, and no piece was refused.
     /// - `NoMemory`: a piece was refused.
     pub fn end(self) -> Result<Vec<u8>, GatherEnd>
-        ensures whole { IfOk result (λ text. (stream : List ℕ) → Holds self stream → text.items ≡ stream) }
+        ensures whole { IfOk result (λ text. (stream : List ℕ) → HoldsStream self stream → text.items ≡ stream) }
         ensures short { IfOk result (λ text. length text.items ≤ self.limit) }
-        ensures long { (stream : List ℕ) → Holds self stream →
+        ensures long { (stream : List ℕ) → HoldsStream self stream →
             (result ≡ Err GatherEnd.Long ↔ self.limit < length stream) }
         ensures refused { result ≡ Err GatherEnd.NoMemory ↔ IsTrue self.refused }
     {

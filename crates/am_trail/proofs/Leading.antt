@@ -8,7 +8,7 @@ use Rattle.std.proofs.lemmas.List.Elements.{filter-append, filter_passes, All-he
 use Rattle.std.proofs.lemmas.List.Elements.{All-contains_itself, All-filter}
 use Rattle.am_lit.proofs.Laws.{Contains-cons_cases, Contains-filter, Contains-nil}
 use Rattle.am_trail.specs.declared.entry.Entry.{Entry}
-use Rattle.am_trail.specs.Trails.{IsNext, Leads, upto}
+use Rattle.am_trail.specs.Trails.{IsNextEntry, Leads, upto}
 use Rattle.std.proofs.lemmas.List.{get_or-map}
 
 -- the levels of entries
@@ -22,12 +22,12 @@ unfolding levels
 level_at es k x lt is = get_or-map (λ (e : Entry). e.level) es k x 0 lt ∙ ap (λ (e : Entry). e.level) (sym is)
 
 -- one more entry leads on to its level
-pub Leads_push : (from : ℕ) (es : List Entry) (to : ℕ) (e : Entry) → Leads from es to → IsNext to e
+pub Leads_push : (from : ℕ) (es : List Entry) (to : ℕ) (e : Entry) → Leads from es to → IsNextEntry to e
     → Leads from (es ++ e ∷ []) e.level
 Leads_push from [] to e h n = (rw h n, refl)
 Leads_push from (x ∷ xs) to e h n = (h.0, Leads_push x.level xs to e h.1 n)
 
-next_le : (from : ℕ) (e : Entry) → IsNext from e → (from ≤ e.level) × (e.level ≤ from + 1)
+next_le : (from : ℕ) (e : Entry) → IsNextEntry from e → (from ≤ e.level) × (e.level ≤ from + 1)
 next_le from e (inl n) = (omega (arith, n.1), omega (arith, n.1))
 next_le from e (inr n) = (omega (arith, n.1), omega (arith, n.1))
 
@@ -88,7 +88,7 @@ prefix_upto level from (x ∷ xs) to (suc n) h le above last =
 pub all_above : (level from : ℕ) (es : List Entry) (to : ℕ) → level < from → Leads from es to → upto level es ≡ []
 all_above level from es to lt h = none_upto level es (λ k in'. let more = rising from es to k h in' in omega arith)
 
-Leads_upto_by : (level from : ℕ) (x : Entry) (rest : List Entry) → IsNext from x → (b : Bool)
+Leads_upto_by : (level from : ℕ) (x : Entry) (rest : List Entry) → IsNextEntry from x → (b : Bool)
     → (b ≡ true → x.level ≤ level) → (b ≡ false → level < x.level)
     → from ≤ level → (x.level ≤ level → Leads x.level rest level) → (level < x.level → rest ≡ [])
     → Leads from (cond b (x ∷ rest) rest) level
@@ -118,13 +118,13 @@ level_read es k d lt = get_or-map (λ (e : Entry). e.level) es k d 0 lt
 
 -- each entry follows the one before it
 pub next_at : (from : ℕ) (es : List Entry) (to k : ℕ) (d : Entry) → Leads from es to → suc k < length es
-    → IsNext (get_or es k d).level (get_or es (suc k) d)
+    → IsNextEntry (get_or es k d).level (get_or es (suc k) d)
 next_at from [] to k d h lt = absurd (omega arith)
 next_at from (x ∷ []) to k d h lt = absurd (omega arith)
 next_at from (x ∷ y ∷ es) to zero d h lt = h.1.0
 next_at from (x ∷ y ∷ es) to (suc k) d h lt = next_at x.level (y ∷ es) to k d h.1 (omega arith)
 
-next_up : (from : ℕ) (x : Entry) (to : ℕ) → IsNext from x → x.level ≤ to → from ≤ to
+next_up : (from : ℕ) (x : Entry) (to : ℕ) → IsNextEntry from x → x.level ≤ to → from ≤ to
 next_up from x to (inl n) le = omega (arith, n.1)
 next_up from x to (inr n) le = omega (arith, n.1)
 

@@ -10,10 +10,10 @@ use Rattle.am_lit.specs.UnitRow.{IsFree}
 use Rattle.am_lit.proofs.Laws.{Contains-nil, same_or, opposite_of-differs, opposite_of-opposite_of, opposite_parts}
 use Rattle.am_trail.specs.declared.values.Value.{Value}
 use Rattle.am_trail.specs.declared.values.Value.TheVariants.{Free, True, False}
-use Rattle.am_trail.specs.inside.Values.{AreValues, IsValue}
+use Rattle.am_trail.specs.inside.Values.{AreLiteralValues, IsLiteralValue}
 
 -- where no literal is true none has a value
-pub no_values : (n : ℕ) → AreValues [] (replicate n Free)
+pub no_values : (n : ℕ) → AreLiteralValues [] (replicate n Free)
 no_values n l lt =
     let inside : l < n = omega (arith, length-replicate {A = Value} n Free) in
     rw (get_or-replicate {A = Value} n l Free Free inside) (Contains-nil l, Contains-nil (opposite_of l))
@@ -25,14 +25,14 @@ present : (row : List ℕ) (m l : ℕ) → m ≢ l → Contains (row ++ m ∷ []
 present row m l ne there = elim (Contains-push_cases row m l there) [ inl t ↦ t | inr e ↦ absurd (ne e) ]
 
 -- literals of other variables keep their values
-longer : (row : List ℕ) (m l : ℕ) (value : Value) → m ≢ l → m ≢ opposite_of l → IsValue row l value
-    → IsValue (row ++ m ∷ []) l value
+longer : (row : List ℕ) (m l : ℕ) (value : Value) → m ≢ l → m ≢ opposite_of l → IsLiteralValue row l value
+    → IsLiteralValue (row ++ m ∷ []) l value
 longer row m l Free a b h = (absent row m l h.0 a, absent row m (opposite_of l) h.1 b)
 longer row m l True a b h = Contains-append_left row (m ∷ []) l h
 longer row m l False a b h = Contains-append_left row (m ∷ []) (opposite_of l) h
 
-shorter : (row : List ℕ) (m l : ℕ) (value : Value) → m ≢ l → m ≢ opposite_of l → IsValue (row ++ m ∷ []) l value
-    → IsValue row l value
+shorter : (row : List ℕ) (m l : ℕ) (value : Value) → m ≢ l → m ≢ opposite_of l → IsLiteralValue (row ++ m ∷ []) l value
+    → IsLiteralValue row l value
 shorter row m l Free a b h = (
   λ t. h.0 (Contains-append_left row (m ∷ []) l t),
   λ t. h.1 (Contains-append_left row (m ∷ []) (opposite_of l) t),
@@ -64,9 +64,9 @@ module _ (values : List Value) (m : ℕ) (first second : Value) (lm : m < length
   at_other l a b = get_or-set_other (set values m first) (opposite_of m) l second Free b
       ∙ get_or-set_other values m l first Free a
 
-  by_parts : (row : List ℕ) → IsValue row m first → IsValue row (opposite_of m) second
-      → ((l : ℕ) → l ≢ m → l ≢ opposite_of m → l < length values → IsValue row l (get_or values l Free))
-      → AreValues row written
+  by_parts : (row : List ℕ) → IsLiteralValue row m first → IsLiteralValue row (opposite_of m) second
+      → ((l : ℕ) → l ≢ m → l ≢ opposite_of m → l < length values → IsLiteralValue row l (get_or values l Free))
+      → AreLiteralValues row written
   by_parts row one two others l lt = elim (same_or l m) [
     | inl e ↦ rw (e, at_first) one
     | inr a ↦ elim (same_or l (opposite_of m)) [
@@ -85,8 +85,8 @@ inside m n le = elim (opposite_parts m) [
 
 -- a literal has become true
 pub true_values : (row : List ℕ) (values : List Value) (m : ℕ) → 2 * variable_of m + 2 ≤ length values
-    → AreValues row values
-    → AreValues (row ++ m ∷ []) (set (set values m True) (opposite_of m) False)
+    → AreLiteralValues row values
+    → AreLiteralValues (row ++ m ∷ []) (set (set values m True) (opposite_of m) False)
 unfolding written
 true_values row values m le h =
     let codes = inside m (length values) le in
@@ -97,8 +97,8 @@ true_values row values m le h =
 
 -- the last literal has no value any more
 pub free_values : (row : List ℕ) (values : List Value) (m : ℕ) → 2 * variable_of m + 2 ≤ length values
-    → AreValues (row ++ m ∷ []) values → IsFree row m
-    → AreValues row (set (set values m Free) (opposite_of m) Free)
+    → AreLiteralValues (row ++ m ∷ []) values → IsFree row m
+    → AreLiteralValues row (set (set values m Free) (opposite_of m) Free)
 unfolding written
 free_values row values m le h free =
     let codes = inside m (length values) le in
@@ -108,8 +108,8 @@ free_values row values m le h free =
 
 -- the value that stands at a literal's code
 pub value_there : (row : List ℕ) (values : List Value) (l code : ℕ) (value : Value)
-    → 2 * variable_of l + 2 ≤ length values → AreValues row values → code ≡ l
-    → value ≡ get_or values code value → IsValue row l value
+    → 2 * variable_of l + 2 ≤ length values → AreLiteralValues row values → code ≡ l
+    → value ≡ get_or values code value → IsLiteralValue row l value
 value_there row values l code value le h at is =
     let lt = (inside l (length values) le).0 in
     let same : value ≡ get_or values l Free =

@@ -16,13 +16,13 @@ abbrev pub literals : List Entry → List ℕ
 literals entries = map (λ e. e.literal) entries
 
 -- an entry is decided at a new level, or implied at the current one
-abbrev pub IsNext : ℕ → Entry → Type 0
-IsNext level e = ((e.reason ≡ None) × (e.level ≡ level + 1)) ⊎ (IsSome e.reason × (e.level ≡ level))
+abbrev pub IsNextEntry : ℕ → Entry → Type 0
+IsNextEntry level e = ((e.reason ≡ None) × (e.level ≡ level + 1)) ⊎ (IsSome e.reason × (e.level ≡ level))
 
 -- the entries lead from one level to another
 abbrev pub Leads : ℕ → List Entry → ℕ → Type 0
 Leads from [] to = from ≡ to
-Leads from (e ∷ es) to = IsNext from e × Leads e.level es to
+Leads from (e ∷ es) to = IsNextEntry from e × Leads e.level es to
 
 -- the entries of the levels up to this one
 abbrev pub upto : ℕ → List Entry → List Entry

@@ -5,7 +5,7 @@ ghost use Rattle.std.specs.Prelude.{vec_capacity, Contains, IfNone, IfSome, if�
 ghost use Rattle.am_lit.specs.Literal.{variable_of, opposite_of};
 ghost use Rattle.am_trail.specs.Trails.{literals};
 ghost use Rattle.am_trail.specs.inside.Places.{IsPlaced, variables};
-ghost use Rattle.am_trail.specs.inside.Values.{AreValues};
+ghost use Rattle.am_trail.specs.inside.Values.{AreLiteralValues};
 ghost use Rattle.am_trail.specs.declared.entry.Entry.{Entry};
 
 use crate::Entry;
@@ -37,12 +37,12 @@ pub fn keep_first(
     len: usize,
 )
     requires placed { IsPlaced (variables entries.old.items) places.old.items }
-    requires values { AreValues (literals entries.old.items) values.old.items }
+    requires values { AreLiteralValues (literals entries.old.items) values.old.items }
     requires both { vec_len values.old ≡ 2 * vec_len places.old }
     requires len { len ≤ vec_len entries.old }
     ensures entries { entries.new.items ≡ take len entries.old.items }
     ensures placed { IsPlaced (variables entries.new.items) places.new.items }
-    ensures values { AreValues (literals entries.new.items) values.new.items }
+    ensures values { AreLiteralValues (literals entries.new.items) values.new.items }
     ensures room { vec_capacity entries.old ≤ vec_capacity entries.new }
     ensures len { vec_len places.new ≡ vec_len places.old }
     ensures both { vec_len values.new ≡ vec_len values.old }

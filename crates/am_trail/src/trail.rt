@@ -30,7 +30,7 @@ impl Model for Trail {
     ghost use Rattle.std.specs.Prelude.{length, vec_len, vec_capacity, ◌≡◌, ◌<◌, ◌≤◌, ◌*◌, ◌^◌};
     ghost use Rattle.am_trail.specs.Trails.{Assigned, Leads, literals};
     ghost use Rattle.am_trail.specs.inside.Places.{IsPlaced, variables};
-    ghost use Rattle.am_trail.specs.inside.Values.{AreValues};
+    ghost use Rattle.am_trail.specs.inside.Values.{AreLiteralValues};
 
     ghost Value = { Assigned };
 
@@ -43,7 +43,7 @@ impl Model for Trail {
 
     ghost invariant = { λ a. IsPlaced (variables a.entries.items) a.places.items × Leads 0 a.entries.items a.level
         × (vec_len a.places ≤ vec_capacity a.entries) × (vec_len a.places < 2 ^ 32)
-        × (a.head ≤ length a.entries.items) × AreValues (literals a.entries.items) a.values.items
+        × (a.head ≤ length a.entries.items) × AreLiteralValues (literals a.entries.items) a.values.items
         × (vec_len a.values ≡ 2 * vec_len a.places) };
 }
 

@@ -9,5 +9,13 @@ pub mod Totals
 pub mod Derivations
 pub mod Matched
 pub mod Listing
+pub mod Listed
+pub mod Once
 pub mod Weighing
+pub mod Places
+pub mod Levels
+pub mod Spelled
+pub mod Chosen
+pub mod SpelledOnce
+pub mod Laying
 pub mod Laws

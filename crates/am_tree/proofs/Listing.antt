@@ -23,14 +23,17 @@ module _ {X : Type 0} where
   has-head : (x y : X) (xs : List X) → y ≡ x → Contains (y ∷ xs) x
   has-head x y xs e = (0, omega arith, e)
 
-  has-tail : (y x : X) (xs : List X) → Contains xs x → Contains (y ∷ xs) x
+  -- an item of the rest of a list is one of the list
+  pub has-tail : (y x : X) (xs : List X) → Contains xs x → Contains (y ∷ xs) x
   has-tail y x xs h = (suc h.0, omega (arith, h.1), h.2)
 
-  has-cases : (y x : X) (xs : List X) → Contains (y ∷ xs) x → (y ≡ x) ⊎ Contains xs x
+  -- an item of a list is its first or one of the rest
+  pub has-cases : (y x : X) (xs : List X) → Contains (y ∷ xs) x → (y ≡ x) ⊎ Contains xs x
   has-cases y x xs (zero, l, e) = inl e
   has-cases y x xs (suc k, l, e) = inr (k, omega (arith, l), e)
 
-  has-none : (x : X) → ¬ Contains [] x
+  -- an empty list has no items
+  pub has-none : (x : X) → ¬ Contains [] x
   has-none x h = omega (arith, h.1)
 
 module _ {X A : Type 0} where

@@ -3,6 +3,7 @@ pub mod Grammars
 pub mod Slots
 pub mod Trees
 pub mod Listed
+pub mod Laid
 pub mod Weights
 pub mod Theorems
 pub mod inside

@@ -1,5 +1,5 @@
 -- Laws of lists of trees and of weights, for all rules. The functions of `theorems` prove them.
-use Rattle.std.specs.Prelude.{ℕ, ◌≡◌, ◌-◌, Contains, List, length, sum_by}
+use Rattle.std.specs.Prelude.{ℕ, ◌≡◌, ◌-◌, ◌↔◌, AllPairs, Contains, List, length, sum_by}
 use Rattle.am_tree.specs.declared.tree.Tree.{Tree}
 use Rattle.am_tree.specs.Counts.{tuple_count}
 use Rattle.am_tree.specs.Listed.{tuples_of}
@@ -12,10 +12,15 @@ abbrev pub TuplesAreCounted : Type 0
 TuplesAreCounted = (rules : Rules) (starts : List ℕ) (depth : ℕ) →
     length (tuples_of rules starts depth) ≡ tuple_count rules starts depth
 
--- each tuple of trees is one of the list
+-- the list has exactly the tuples of trees that derive, one from each start
 abbrev pub TuplesAreListed : Type 0
 TuplesAreListed = (rules : Rules) (starts : List ℕ) (depth : ℕ) (ts : List Tree) →
-    AreTrees rules starts depth ts → Contains (tuples_of rules starts depth) ts
+    Contains (tuples_of rules starts depth) ts ↔ AreTrees rules starts depth ts
+
+-- each tuple stands in the list once
+abbrev pub TuplesStandOnce : Type 0
+TuplesStandOnce = (rules : Rules) (starts : List ℕ) (depth : ℕ) →
+    AllPairs (λ ts us. ¬ ts ≡ us) (tuples_of rules starts depth)
 
 -- a block weighs what the slots of the layout weigh together
 abbrev pub BlockWeighsItsSlots : Type 0

@@ -3,7 +3,7 @@
 ghost use Rattle.std.specs.Prelude.{◌≡◌, ◌≤◌, ◌↔◌, IfSome, IfNone, IsTrue, All, length, nat_lt, sum_by};
 ghost use Rattle.std.specs.List.{list_all};
 ghost use Rattle.am_tree.specs.Grammars.{IsGrammar, is_production};
-ghost use Rattle.am_tree.specs.inside.Formed.{AreRules};
+ghost use Rattle.am_tree.specs.inside.Formed.{AreGrammarRules};
 
 use am_bv::{Op, Row, Term};
 
@@ -87,7 +87,7 @@ fn is_grammar(rules: &[Productions], starts: &[u32], depth: u32) -> bool
 
 /// Whether all are productions of a grammar with these rules, and at most 64 in number.
 fn are_rules(rules: &[Productions]) -> bool
-    ensures { IsTrue result ↔ AreRules rules.now }
+    ensures { IsTrue result ↔ AreGrammarRules rules.now }
 {
     let mut total = 0;
     for productions in rules {

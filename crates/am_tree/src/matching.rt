@@ -9,7 +9,7 @@ ghost use Rattle.std.specs.Prelude.{ℕ, suc, ◌≡◌, ◌<◌, ◌≤◌, Lis
 ghost use Rattle.std.specs.List.{AllZip};
 ghost use Rattle.std.specs.Option.{option_copied};
 ghost use Rattle.am_tree.specs.Trees.{Rules, IsFound};
-ghost use Rattle.am_tree.specs.inside.Matched.{arguments_of, tree_at, AreFound, AreChildren, AreJoined};
+ghost use Rattle.am_tree.specs.inside.Matched.{arguments_of, tree_at, AreFound, AreChildren, AreJoinedTrees};
 
 use crate::grammar::{Grammar, Production, Productions};
 use crate::tree::{Tree, Trees};
@@ -132,7 +132,7 @@ fn children(
 fn joined(alloc: Global, names: &[u32], tables: &[Table]) -> Result<Option<Trees>, AllocError>
     ensures { IfOk result (λ found. (rules : Rules) (d : ℕ) (args : List Term) →
         AllZip (AreFound rules d) args tables.now → length names.now ≡ length args →
-        AreJoined rules d names.now args found) }
+        AreJoinedTrees rules d names.now args found) }
 {
     let mut trees = Row::new(alloc);
     for (i, name) in names.iter().enumerate() {

@@ -3,7 +3,7 @@
 ghost use Rattle.std.specs.Prelude.{ℕ, ◌≡◌, ◌+◌, ◌-◌, ◌*◌, ◌^◌, ◌<◌, ◌≤◌, All, length, sum_by, slice_index};
 ghost use Rattle.am_tree.specs.Slots.{arguments, layout_of, offered, offered_by, shared, shared_by};
 ghost use Rattle.am_tree.specs.Weights.{production_weight, slot_weight, block_weight};
-ghost use Rattle.am_tree.specs.inside.Totals.{total, AreNumbers, HasBounds, HasSmallLeaf};
+ghost use Rattle.am_tree.specs.inside.Totals.{total, AreBoundedTotals, HasBounds, HasSmallLeaf};
 
 use crate::grammar::{Grammar, MOST_RULES, Production, Productions};
 use crate::slots::{is_offered, shared};
@@ -35,8 +35,8 @@ impl Grammar {
     /// The sum over all slots, where a slot of the last level counts `last` of its nonterminal, and any
     /// other slot `inner` of it.
     fn total(&self, last: Sums, inner: Sums) -> u64
-        requires last { AreNumbers (length self.now.rules) (2 ^ 21) last.items }
-        requires inner { AreNumbers (length self.now.rules) (2 ^ 21) inner.items }
+        requires last { AreBoundedTotals (length self.now.rules) (2 ^ 21) last.items }
+        requires inner { AreBoundedTotals (length self.now.rules) (2 ^ 21) inner.items }
         ensures { let g = self.now in result ≡
             total g.rules (slice_index last.items) (slice_index inner.items) (g.depth - 1) g.starts }
     {
@@ -68,7 +68,7 @@ fn ones(count: usize) -> Sums
 /// What a slot of each nonterminal weighs, with so many levels below it.
 fn slot_weights(rules: &[Productions], w: Width, below: u32) -> Sums
     requires { HasBounds rules.now }
-    ensures numbers { AreNumbers (length rules.now) (2 ^ 21) result.items }
+    ensures numbers { AreBoundedTotals (length rules.now) (2 ^ 21) result.items }
     ensures each { (n : ℕ) → n < length rules.now →
         slice_index result.items n ≡ slot_weight w (offered rules.now below n) }
 {
@@ -111,8 +111,8 @@ fn production_weight(production: &Production, w: Width) -> u64
 /// The sums with one level more below, by those with fewer.
 fn sums_above(rules: &[Productions], inner: &[u64], below: &[u64]) -> Sums
     requires rules { HasBounds rules.now }
-    requires inner { AreNumbers (length rules.now) (2 ^ 21) inner.now }
-    requires below { AreNumbers (length rules.now) (2 ^ 53) below.now }
+    requires inner { AreBoundedTotals (length rules.now) (2 ^ 21) inner.now }
+    requires below { AreBoundedTotals (length rules.now) (2 ^ 53) below.now }
     ensures len { length result.items ≡ length rules.now }
     ensures each { (n : ℕ) → n < length rules.now →
         slice_index result.items n ≡ slice_index inner.now n

@@ -17,7 +17,7 @@ use Rattle.am_watch.specs.declared.watcher.Watcher.{Watcher}
 use Rattle.am_watch.specs.declared.watcher.Pair.{Pair}
 use Rattle.am_watch.specs.Pairs.{no_pair}
 use Rattle.am_watch.specs.Lists.{list_at}
-use Rattle.am_watch.specs.Watching.{Holds, Keeps, Watched, empty_trail}
+use Rattle.am_watch.specs.Watching.{KeepsWatches, Watched, WatchesHold, empty_trail}
 
 not_lt : (i n : ℕ) → ¬ (i < n) → n ≤ i
 not_lt i n h = elim (dec_lt i n) [ yes lt ↦ absurd (h lt) | no ge ↦ omega arith ]
@@ -25,8 +25,8 @@ not_lt i n h = elim (dec_lt i n) [ yes lt ↦ absurd (h lt) | no ge ↦ omega ar
 -- one more clause, which is fresh
 pub with_clause : (lists : List (List Watcher)) (pairs : List Pair) (fresh : List ℕ) (clauses : List (List ℕ))
     (t : Assigned) (c : List ℕ) (n : ℕ)
-    → n ≡ length pairs → Keeps lists pairs fresh clauses t → All (λ l. variable_of l < t.vars) c
-    → Keeps lists (pairs ++ no_pair ∷ []) (fresh ++ n ∷ []) (clauses ++ c ∷ []) t
+    → n ≡ length pairs → KeepsWatches lists pairs fresh clauses t → All (λ l. variable_of l < t.vars) c
+    → KeepsWatches lists (pairs ++ no_pair ∷ []) (fresh ++ n ∷ []) (clauses ++ c ∷ []) t
 with_clause lists pairs fresh clauses t c n is h below = record {
   numbers = omega (arith, h.numbers, length-append pairs (no_pair ∷ []), length-append clauses (c ∷ []));
   codes = h.codes;
@@ -73,7 +73,7 @@ with_clause lists pairs fresh clauses t c n is h below = record {
 
 -- no clauses, and an empty trail
 pub empty_holds : (lists : List (List Watcher)) (vars : ℕ) → length lists ≡ 2 * vars → ((l : ℕ) → list_at lists l ≡ [])
-    → Keeps lists [] [] [] (empty_trail vars)
+    → KeepsWatches lists [] [] [] (empty_trail vars)
 empty_holds lists vars codes empty = record {
   numbers = refl;
   codes = codes;
@@ -103,12 +103,12 @@ module _ {A E : Type 0} (r : Result A E) (old new : Watched) (n : ℕ) (lists : 
   -- a call that adds a clause keeps the invariant with the clause among the fresh ones
   pub added : OnOk r (new.pairs ≡ old.pairs ++ no_pair ∷ []) → OnOk r (new.fresh ≡ old.fresh ++ n ∷ [])
       → (c : List ℕ)
-      → OnOk r ((clauses : List (List ℕ)) (t : Assigned) → Holds old clauses t → n ≡ length clauses
-      → All (λ l. variable_of l < t.vars) c → Holds new (clauses ++ c ∷ []) t)
+      → OnOk r ((clauses : List (List ℕ)) (t : Assigned) → WatchesHold old clauses t → n ≡ length clauses
+      → All (λ l. variable_of l < t.vars) c → WatchesHold new (clauses ++ c ∷ []) t)
   added pairs fresh c = go r pairs fresh where
     go : (r : Result A E) → OnOk r (new.pairs ≡ old.pairs ++ no_pair ∷ []) → OnOk r (new.fresh ≡ old.fresh ++ n ∷ [])
-        → OnOk r ((clauses : List (List ℕ)) (t : Assigned) → Holds old clauses t → n ≡ length clauses
-        → All (λ l. variable_of l < t.vars) c → Holds new (clauses ++ c ∷ []) t)
+        → OnOk r ((clauses : List (List ℕ)) (t : Assigned) → WatchesHold old clauses t → n ≡ length clauses
+        → All (λ l. variable_of l < t.vars) c → WatchesHold new (clauses ++ c ∷ []) t)
     go (Ok x) p f = λ clauses t h is below. rw (lists, p, f)
         (with_clause old.lists old.pairs old.fresh clauses t c n (is ∙ sym h.numbers) h below)
     go (Err e) p f = tt

@@ -14,11 +14,11 @@ use Rattle.am_watch.specs.Pairs.{pair_at}
 use Rattle.am_watch.proofs.Keeping.{with_entry}
 use Rattle.am_watch.proofs.Parts.{Contains-drop, Contains-take}
 use Rattle.am_watch.proofs.Still.{all_still}
-use Rattle.am_watch.specs.Watching.{clause_at, Holds, Keeps, IsGuarded, Watched}
+use Rattle.am_watch.specs.Watching.{clause_at, WatchesHold, KeepsWatches, IsGuarded, Watched}
 
 keeps_decide : (lists : List (List Watcher)) (pairs : List Pair) (fresh : List ℕ) (clauses : List (List ℕ))
-    (t : Assigned) (l : ℕ) → Keeps lists pairs fresh clauses t → t.head ≡ length t.entries
-    → Keeps lists pairs fresh clauses (decided t l)
+    (t : Assigned) (l : ℕ) → KeepsWatches lists pairs fresh clauses t → t.head ≡ length t.entries
+    → KeepsWatches lists pairs fresh clauses (decided t l)
 keeps_decide lists pairs fresh clauses t l h end = record {
   numbers = h.numbers;
   codes = h.codes;
@@ -102,8 +102,8 @@ module _ (t : Assigned) (j : ℕ) (trail : IsTrail t) where
     at_prefix P h = subst P prefix h
 
 keeps_back : (lists : List (List Watcher)) (pairs : List Pair) (fresh : List ℕ) (clauses : List (List ℕ))
-    (t : Assigned) (j : ℕ) → Keeps lists pairs fresh clauses t → IsTrail t → j ≤ t.level
-    → Keeps lists pairs fresh clauses (returned t j)
+    (t : Assigned) (j : ℕ) → KeepsWatches lists pairs fresh clauses t → IsTrail t → j ≤ t.level
+    → KeepsWatches lists pairs fresh clauses (returned t j)
 keeps_back lists pairs fresh clauses t j h trail le = record {
   numbers = h.numbers;
   codes = h.codes;
@@ -122,18 +122,18 @@ keeps_back lists pairs fresh clauses t j h trail le = record {
       (old.0, in_upto j t.entries old.0 old.1 (omega (arith, old.3, d.1)), old.2, old.3)
 
 -- a decision keeps the invariant, where the head stands at the end
-pub holds_decide : (w : Watched) (clauses : List (List ℕ)) (t : Assigned) (l : ℕ) → Holds w clauses t
-    → t.head ≡ length t.entries → Holds w clauses (decided t l)
+pub holds_decide : (w : Watched) (clauses : List (List ℕ)) (t : Assigned) (l : ℕ) → WatchesHold w clauses t
+    → t.head ≡ length t.entries → WatchesHold w clauses (decided t l)
 holds_decide w clauses t l h end = keeps_decide w.lists w.pairs w.fresh clauses t l h end
 
 -- so does an implication, whatever clause is its reason
-pub holds_imply : (w : Watched) (clauses : List (List ℕ)) (t : Assigned) (l reason : ℕ) → Holds w clauses t
-    → t.head ≤ length t.entries → Holds w clauses (implied t l reason)
+pub holds_imply : (w : Watched) (clauses : List (List ℕ)) (t : Assigned) (l reason : ℕ) → WatchesHold w clauses t
+    → t.head ≤ length t.entries → WatchesHold w clauses (implied t l reason)
 holds_imply w clauses t l reason h le =
     with_entry w.lists w.pairs w.fresh clauses t h (record { literal = l; level = t.level; reason = Some reason })
     refl le
 
 -- so does a return to a level
-pub holds_back : (w : Watched) (clauses : List (List ℕ)) (t : Assigned) (j : ℕ) → Holds w clauses t → IsTrail t
-    → j ≤ t.level → Holds w clauses (returned t j)
+pub holds_back : (w : Watched) (clauses : List (List ℕ)) (t : Assigned) (j : ℕ) → WatchesHold w clauses t → IsTrail t
+    → j ≤ t.level → WatchesHold w clauses (returned t j)
 holds_back w clauses t j h trail le = keeps_back w.lists w.pairs w.fresh clauses t j h trail le

@@ -15,7 +15,7 @@ use Rattle.am_watch.specs.declared.watcher.Pair.{Pair}
 use Rattle.am_watch.specs.Pairs.{IsPairOf, pair_at}
 use Rattle.am_watch.specs.Lists.{list_at, IsListed}
 use Rattle.am_watch.specs.inside.Rows.{IsLonger, IsShorter}
-use Rattle.am_watch.specs.Watching.{clause_at, IsTrueUpTo, IsGuarded, IsSafe, IsWatcher, Keeps, IsTrueIn}
+use Rattle.am_watch.specs.Watching.{clause_at, IsTrueUpTo, IsGuarded, IsSafe, IsWatcher, KeepsWatches, IsTrueIn}
 use Rattle.am_lit.proofs.Laws.{opposite_of-opposite_of}
 use Rattle.am_trail.proofs.Laws.{entry_of, level_le, literal_in}
 use Rattle.am_watch.proofs.Parts.{Contains-take}
@@ -41,10 +41,10 @@ guarded_current t c l trail h at e there is =
     (up.0, up.1, up.2, omega (arith, up.3, at e (Contains-take t.head t.entries e there) is))
 
 module _ (lists : List (List Watcher)) (pairs : List Pair) (fresh : List ℕ) (clauses : List (List ℕ)) (t : Assigned)
-    (h : Keeps lists pairs fresh clauses t) where
+    (h : KeepsWatches lists pairs fresh clauses t) where
   -- one more watcher
   pub with_watcher : (l : ℕ) (w : Watcher) (new : List (List Watcher)) → IsLonger l w lists new
-      → IsWatcher clauses pairs w → Keeps new pairs fresh clauses t
+      → IsWatcher clauses pairs w → KeepsWatches new pairs fresh clauses t
   with_watcher l w new longer is = record {
     numbers = h.numbers;
     codes = longer.count ∙ h.codes;
@@ -104,7 +104,7 @@ module _ (lists : List (List Watcher)) (pairs : List Pair) (fresh : List ℕ) (c
         record { number = rw (same w) at old.number; blocker = blocks; pair = rw (same w) at old.pair }
 
     -- a watcher with another blocker, which is a literal of its clause, keeps the invariant
-    pub with_blocker : Keeps (set lists l row) pairs fresh clauses t
+    pub with_blocker : KeepsWatches (set lists l row) pairs fresh clauses t
     with_blocker = record {
       numbers = h.numbers;
       codes = length-set lists l row ∙ h.codes;
@@ -131,7 +131,7 @@ module _ (lists : List (List Watcher)) (pairs : List Pair) (fresh : List ℕ) (c
 
   -- another pair for a clause
   pub with_pair : (i : ℕ) (p : Pair) → i < length clauses → IsPairOf (clause_at clauses i) p → Contains fresh i
-      ⊎ IsSafe lists t (clause_at clauses i) i p → Keeps lists (set pairs i p) fresh clauses t
+      ⊎ IsSafe lists t (clause_at clauses i) i p → KeepsWatches lists (set pairs i p) fresh clauses t
   with_pair i p lt is kept = record {
     numbers = length-set pairs i p ∙ h.numbers;
     codes = h.codes;
@@ -166,7 +166,7 @@ module _ (lists : List (List Watcher)) (pairs : List Pair) (fresh : List ℕ) (c
   -- a watcher of a clause that is watched elsewhere goes
   pub without_watcher : (l j i : ℕ) (new : List (List Watcher)) → IsShorter l j lists new
       → ((d : Watcher) → (get_or (list_at lists l) j d).clause ≡ i)
-      → (pair_at pairs i).first ≢ l → (pair_at pairs i).second ≢ l → Keeps new pairs fresh clauses t
+      → (pair_at pairs i).first ≢ l → (pair_at pairs i).second ≢ l → KeepsWatches new pairs fresh clauses t
   without_watcher l j i new shorter at first second = record {
     numbers = h.numbers;
     codes = shorter.count ∙ h.codes;
@@ -194,7 +194,7 @@ module _ (lists : List (List Watcher)) (pairs : List Pair) (fresh : List ℕ) (c
   -- a clause that is watched isn't fresh any more
   pub without_fresh : (i : ℕ) (new : List ℕ) → ((x : ℕ) → Contains fresh x → Contains new x ⊎ (x ≡ i))
       → ((x : ℕ) → Contains new x → Contains fresh x)
-      → IsSafe lists t (clause_at clauses i) i (pair_at pairs i) → Keeps lists pairs new clauses t
+      → IsSafe lists t (clause_at clauses i) i (pair_at pairs i) → KeepsWatches lists pairs new clauses t
   without_fresh i new keeps within watched = record {
     numbers = h.numbers;
     codes = h.codes;
@@ -210,7 +210,7 @@ module _ (lists : List (List Watcher)) (pairs : List Pair) (fresh : List ℕ) (c
 
   -- the trail grows by an entry of its level
   pub with_entry : (e : Entry) → e.level ≡ t.level → t.head ≤ length t.entries
-      → Keeps lists pairs fresh clauses (record t { entries = t.entries ++ e ∷ [] })
+      → KeepsWatches lists pairs fresh clauses (record t { entries = t.entries ++ e ∷ [] })
   with_entry e at le = record {
     numbers = h.numbers;
     codes = h.codes;
@@ -235,7 +235,7 @@ module _ (lists : List (List Watcher)) (pairs : List Pair) (fresh : List ℕ) (c
   pub passed : (p : ℕ) (d : Entry) → IsTrail t → t.head < length t.entries
       → (get_or t.entries t.head d).literal ≡ opposite_of p
       → ((x : Watcher) → Contains (list_at lists p) x → IsTrueIn t.entries (clause_at clauses x.clause))
-      → Keeps lists pairs fresh clauses (record t { head = t.head + 1 })
+      → KeepsWatches lists pairs fresh clauses (record t { head = t.head + 1 })
   passed p d trail lt at done = record {
     numbers = h.numbers;
     codes = h.codes;

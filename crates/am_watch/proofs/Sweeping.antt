@@ -11,7 +11,7 @@ use Rattle.am_watch.specs.declared.watcher.Watcher.{Watcher}
 use Rattle.am_watch.specs.declared.watcher.Pair.{Pair}
 use Rattle.am_watch.specs.Pairs.{IsPairOf, pair_at}
 use Rattle.am_watch.specs.inside.Rows.{IsCutAt, IsKeptAt, IsLonger}
-use Rattle.am_watch.specs.Watching.{clause_at, Extends, Keeps, IsGuarded, IsTrueIn}
+use Rattle.am_watch.specs.Watching.{clause_at, Extends, KeepsWatches, IsGuarded, IsTrueIn}
 use Rattle.am_watch.proofs.Extending.{true_still}
 use Rattle.am_watch.proofs.Keeping.{with_watcher, with_pair, without_fresh}
 use Rattle.am_lit.proofs.Laws.{same_or}
@@ -71,7 +71,7 @@ true_all clauses fresh entries j le done i h = rw h.2 at (done h.0 i (omega (ari
 -- a fresh clause is watched from now on
 module _ (lists mid new : List (List Watcher)) (pairs : List Pair) (fresh rest : List ℕ) (clauses : List (List ℕ))
     (t : Assigned) (i : ℕ) (p : Pair)
-    (h : Keeps lists pairs fresh clauses t) (there : Contains fresh i) (is : IsPairOf (clause_at clauses i) p)
+    (h : KeepsWatches lists pairs fresh clauses t) (there : Contains fresh i) (is : IsPairOf (clause_at clauses i) p)
     (first : IsGuarded t (clause_at clauses i) p.first) (second : IsGuarded t (clause_at clauses i) p.second)
     (to_first : IsLonger p.first (record { clause = i; blocker = p.second }) lists mid)
     (to_second : IsLonger p.second (record { clause = i; blocker = p.first }) mid new)
@@ -83,19 +83,19 @@ module _ (lists mid new : List (List Watcher)) (pairs : List Pair) (fresh rest :
   pair_now : pair_at (set pairs i p) i ≡ p
   pair_now = get_or-set_same pairs i p (record { first = 0; second = 0 }) (omega (arith, lt, h.numbers))
 
-  h1 : Keeps lists (set pairs i p) fresh clauses t
+  h1 : KeepsWatches lists (set pairs i p) fresh clauses t
   h1 = with_pair lists pairs fresh clauses t h i p lt is (inl there)
 
-  h2 : Keeps mid (set pairs i p) fresh clauses t
+  h2 : KeepsWatches mid (set pairs i p) fresh clauses t
   h2 = with_watcher lists (set pairs i p) fresh clauses t h1 p.first (record { clause = i; blocker = p.second }) mid
       to_first (record { number = lt; blocker = is.second; pair = rw pair_now is })
 
-  h3 : Keeps new (set pairs i p) fresh clauses t
+  h3 : KeepsWatches new (set pairs i p) fresh clauses t
   h3 = with_watcher mid (set pairs i p) fresh clauses t h2 p.second (record { clause = i; blocker = p.first }) new
       to_second (record { number = lt; blocker = is.first; pair = rw pair_now is })
 
   -- the invariant holds with its pair, its two watchers, and its number no longer fresh
-  pub watched_now : Keeps new (set pairs i p) rest clauses t
+  pub watched_now : KeepsWatches new (set pairs i p) rest clauses t
   watched_now = without_fresh new (set pairs i p) fresh clauses t h3 i rest keeps within (rw pair_now (inl (record {
     pair = is;
     first_listed = (

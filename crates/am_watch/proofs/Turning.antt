@@ -10,8 +10,8 @@ use Rattle.am_watch.specs.declared.watcher.Pair.{Pair}
 use Rattle.am_watch.specs.Pairs.{IsPairOf, other_of, pair_at}
 use Rattle.am_watch.specs.Lists.{list_at, IsListed}
 use Rattle.am_watch.specs.inside.Rows.{IsLonger, IsShorter, IsCutAt}
-use Rattle.am_watch.specs.Watching.{clause_at, IsGuarded, IsSafe, IsWatched, Keeps}
-use Rattle.am_watch.specs.inside.Sweeps.{IsTurn}
+use Rattle.am_watch.specs.Watching.{clause_at, IsGuarded, IsSafe, IsWatched, KeepsWatches}
+use Rattle.am_watch.specs.inside.Sweeps.{IsWatchTurn}
 use Rattle.am_watch.proofs.Keeping.{guarded_open, with_watcher, with_pair, without_watcher}
 
 -- what holds of a number holds of one that equals it
@@ -29,8 +29,8 @@ other_cases p l differ = go (eqb p.first l) (eqb-true p.first l) (eqb-false p.fi
 
 module _ (lists mid new : List (List Watcher)) (pairs : List Pair) (fresh : List ℕ) (clauses : List (List ℕ))
     (t : Assigned) (l j i other next : ℕ)
-    (h : Keeps lists pairs fresh clauses t)
-    (turn : IsTurn lists pairs clauses (literals t.entries) l j i other next) where
+    (h : KeepsWatches lists pairs fresh clauses t)
+    (turn : IsWatchTurn lists pairs clauses (literals t.entries) l j i other next) where
   abbrev pub w : Watcher
   w = record { clause = i; blocker = other }
 
@@ -67,7 +67,7 @@ module _ (lists mid new : List (List Watcher)) (pairs : List Pair) (fresh : List
             ∙ ap (λ r. get_or r k d) row_same;
       }
 
-      h1 : Keeps mid pairs fresh clauses t
+      h1 : KeepsWatches mid pairs fresh clauses t
       h1 = with_watcher lists pairs fresh clauses t h next w mid longer
           (record { number = turn.number; blocker = other_there; pair = turn.pair })
 
@@ -102,14 +102,14 @@ module _ (lists mid new : List (List Watcher)) (pairs : List Pair) (fresh : List
         second_guarded = guarded_open t c next turn.unfalse;
       }))
 
-      h2 : Keeps mid (set pairs i p) fresh clauses t
+      h2 : KeepsWatches mid (set pairs i p) fresh clauses t
       h2 = with_pair mid pairs fresh clauses t h1 i p turn.number is (kept (h1.kept i turn.number))
 
       pair_now : pair_at (set pairs i p) i ≡ p
       pair_now = get_or-set_same pairs i p (record { first = 0; second = 0 }) (omega (arith, h.numbers, turn.number))
 
       -- the invariant holds with the watcher's new literal, and its clause's new pair
-      pub turned : Keeps new (set pairs i p) fresh clauses t
+      pub turned : KeepsWatches new (set pairs i p) fresh clauses t
       turned = without_watcher mid (set pairs i p) fresh clauses t h2 l j i new shorter
           (λ d. ap (λ r. (get_or r j d).clause) row_same ∙ turn.here d)
           (rw pair_now cases.1) (rw pair_now apart)

@@ -10,8 +10,8 @@ use Rattle.am_watch.specs.declared.watcher.Pair.{Pair}
 use Rattle.am_watch.specs.Pairs.{other_of, pair_at}
 use Rattle.am_watch.specs.Lists.{list_at}
 use Rattle.am_watch.specs.inside.Rows.{IsKeptAt}
-use Rattle.am_watch.specs.Watching.{clause_at, IsWatcher, Keeps, IsTrueIn}
-use Rattle.am_watch.specs.inside.Sweeps.{IsTurn}
+use Rattle.am_watch.specs.Watching.{clause_at, IsWatcher, KeepsWatches, IsTrueIn}
+use Rattle.am_watch.specs.inside.Sweeps.{IsWatchTurn}
 use Rattle.am_watch.proofs.Keeping.{with_blocker}
 use Rattle.am_watch.proofs.Turning.{along, other_cases}
 
@@ -21,7 +21,8 @@ code_below l vars n lt e = omega arith
 
 module _ (lists : List (List Watcher)) (pairs : List Pair) (fresh : List ℕ) (clauses : List (List ℕ)) (t : Assigned)
     (l j : ℕ)
-    (h : Keeps lists pairs fresh clauses t) (place : j < length (list_at lists l)) (w : Watcher) (at : (d : Watcher)
+    (h : KeepsWatches lists pairs fresh clauses t) (place : j < length (list_at lists l)) (w : Watcher)
+    (at : (d : Watcher)
     → w ≡ get_or (list_at lists l) j d) where
   -- what is read there is a watcher
   pub watcher : IsWatcher clauses pairs w
@@ -54,7 +55,8 @@ module _ (lists : List (List Watcher)) (pairs : List Pair) (fresh : List ℕ) (c
     -- it blocks from now on
     module _ (code : l < length lists) where
       -- the invariant holds
-      pub blocked : Keeps (set lists l (set (list_at lists l) j (record { clause = w.clause; blocker = o }))) pairs
+      pub blocked : KeepsWatches (set lists l (set (list_at lists l) j (record { clause = w.clause; blocker = o })))
+          pairs
           fresh clauses t
       blocked = with_blocker lists pairs fresh clauses t h l j (record { clause = w.clause; blocker = o }) code place
           here other_there
@@ -86,7 +88,7 @@ module _ (lists : List (List Watcher)) (pairs : List Pair) (fresh : List ℕ) (c
     -- it may turn to a literal of its clause that isn't false
     pub turns : (next : ℕ) → Contains (clause_at clauses w.clause) next → next ≢ o
         → ¬ (Contains (literals t.entries) (opposite_of next)) → Contains (literals t.entries) (opposite_of l)
-        → IsTurn lists pairs clauses (literals t.entries) l j w.clause o next
+        → IsWatchTurn lists pairs clauses (literals t.entries) l j w.clause o next
     turns next there ne unfalse untrue = record {
       place = place;
       number = watcher.number;

@@ -52,7 +52,7 @@ abbrev pub IsSafe : List (List Watcher) → Assigned → List ℕ → ℕ → Pa
 IsSafe lists t c i p = IsWatched lists t c i p ⊎ IsTrueUpTo t.entries c 0
 
 -- each clause is fresh, and is looked at by itself at each call, or it needs no such look
-pub record Keeps (lists : List (List Watcher)) (pairs : List Pair) (fresh : List ℕ) (clauses : List (List ℕ))
+pub record KeepsWatches (lists : List (List Watcher)) (pairs : List Pair) (fresh : List ℕ) (clauses : List (List ℕ))
     (t : Assigned) : Type 0 where
   pub numbers : length pairs ≡ length clauses
   pub codes : length lists ≡ 2 * t.vars
@@ -64,8 +64,8 @@ pub record Keeps (lists : List (List Watcher)) (pairs : List Pair) (fresh : List
       → Contains fresh i ⊎ IsSafe lists t (clause_at clauses i) i (pair_at pairs i)
 
 -- THE INVARIANT between watches, clauses and trail
-abbrev pub Holds : Watched → List (List ℕ) → Assigned → Type 0
-Holds w clauses t = Keeps w.lists w.pairs w.fresh clauses t
+abbrev pub WatchesHold : Watched → List (List ℕ) → Assigned → Type 0
+WatchesHold w clauses t = KeepsWatches w.lists w.pairs w.fresh clauses t
 
 -- the reason of a literal is a clause that the literals before it force to it
 abbrev pub IsReason : List (List ℕ) → List ℕ → ℕ → Option ℕ → Type 0

@@ -29,7 +29,7 @@
 //! trail begins with its old entries and is at its old level; each further literal stands in its reason,
 //! whose other literals were false before it.
 //!
-//! This rests on one invariant between watches, clauses and trail, `Holds`. [`Watch::new`] gives it for an
+//! This rests on one invariant between watches, clauses and trail, `WatchesHold`. [`Watch::new`] gives it for an
 //! empty trail, [`Watch::add`] keeps it for one more clause, `propagate` keeps it, and [`watch_laws`] say
 //! that `Trail::decide` at the end of a trail, `Trail::imply` and `Trail::back_to` keep it. `add` takes
 //! its memory before it changes anything. No clause tells watched literals from a scan of all clauses

@@ -9,7 +9,7 @@ ghost use Rattle.am_trail.specs.Trails.{literals};
 ghost use Rattle.am_trail.specs.declared.entry.Entry.{Entry};
 ghost use Rattle.am_watch.specs.declared.watcher.Watcher.{Watcher};
 ghost use Rattle.am_watch.specs.declared.watcher.Pair.{Pair};
-ghost use Rattle.am_watch.specs.Watching.{Extends, Keeps, IsFalseAt};
+ghost use Rattle.am_watch.specs.Watching.{Extends, KeepsWatches, IsFalseAt};
 
 use am_lit::{Clauses, Lit};
 use am_trail::Trail;
@@ -91,8 +91,8 @@ pub fn force(trail: &mut Trail, given: &Clauses, learnt: &Clauses, number: u32, 
     ensures extends { Extends (given.now ++ learnt.now) trail.old trail.new }
     ensures head { trail.new.head ≡ trail.old.head }
     ensures holds { (lists : List (List Watcher)) (pairs : List Pair) (fresh : List ℕ)
-        → Keeps lists pairs fresh (given.now ++ learnt.now) trail.old
-        → Keeps lists pairs fresh (given.now ++ learnt.now) trail.new }
+        → KeepsWatches lists pairs fresh (given.now ++ learnt.now) trail.old
+        → KeepsWatches lists pairs fresh (given.now ++ learnt.now) trail.new }
 {
     trail.known();
     match trail.value(l) {

@@ -3,7 +3,7 @@
 ghost use Rattle.std.specs.Prelude.{◌≡◌, ◌^◌, ◌<◌, [], ◌∷◌, ◌++◌, All, List, ℕ, length, IfOk, OnErr, OnOk};
 ghost use Rattle.am_lit.specs.Literal.{variable_of};
 ghost use Rattle.am_trail.specs.Trails.{Assigned};
-ghost use Rattle.am_watch.specs.Watching.{Extends, Holds, IsPropagated, empty_trail};
+ghost use Rattle.am_watch.specs.Watching.{Extends, IsPropagated, WatchesHold, empty_trail};
 
 use crate::watches::Watches;
 use am_lit::{Clauses, Formula, Lit};
@@ -12,7 +12,7 @@ use std::alloc::{AllocError, Global};
 use std::marker::Model;
 
 /// The watched literals of each clause of a formula and of the learnt clauses, whose numbers follow
-/// those of the formula's. `Holds` is the invariant between watches, clauses and trail.
+/// those of the formula's. `WatchesHold` is the invariant between watches, clauses and trail.
 #[derive(Drop)]
 pub struct Watch {
     watches: Watches,
@@ -33,7 +33,7 @@ impl Model for Watch {
 impl Watch {
     /// The watches of a formula's clauses, for an empty trail.
     pub fn new(alloc: Global, formula: &Formula) -> Result<Watch, AllocError>
-        ensures { IfOk result (λ w. Holds w formula.now.clauses (empty_trail formula.now.vars)) }
+        ensures { IfOk result (λ w. WatchesHold w formula.now.clauses (empty_trail formula.now.vars)) }
     {
         let watches = Watches::new(alloc, formula)?;
         Ok(Watch { watches })
@@ -43,8 +43,8 @@ impl Watch {
     /// changes nothing.
     pub fn add(&mut self, clause: u32, lits: &[Lit]) -> Result<(), AllocError>
         ensures ok { OnOk result ((clauses : List (List ℕ)) (t : Assigned)
-            → Holds self.old clauses t → clause ≡ length clauses → All (λ l. variable_of l < t.vars) lits.now
-            → Holds self.new (clauses ++ lits.now ∷ []) t) }
+            → WatchesHold self.old clauses t → clause ≡ length clauses → All (λ l. variable_of l < t.vars) lits.now
+            → WatchesHold self.new (clauses ++ lits.now ∷ []) t) }
         ensures err { OnErr result (self.new ≡ self.old) }
     {
         self.watches.add(clause)
@@ -59,9 +59,9 @@ impl Watch {
         formula: &Formula,
         learnt: &Clauses,
     ) -> Result<Option<u32>, AllocError>
-        requires holds { Holds self.old (formula.now.clauses ++ learnt.now) trail.old }
+        requires holds { WatchesHold self.old (formula.now.clauses ++ learnt.now) trail.old }
         requires number { length (formula.now.clauses ++ learnt.now) < 2 ^ 32 }
-        ensures holds { OnOk result (Holds self.new (formula.now.clauses ++ learnt.now) trail.new) }
+        ensures holds { OnOk result (WatchesHold self.new (formula.now.clauses ++ learnt.now) trail.new) }
         ensures extends { Extends (formula.now.clauses ++ learnt.now) trail.old trail.new }
         ensures answer { IfOk result (IsPropagated (formula.now.clauses ++ learnt.now) trail.new) }
     {

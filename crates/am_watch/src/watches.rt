@@ -14,7 +14,7 @@ ghost use Rattle.am_watch.specs.Lists.{list_at};
 ghost use Rattle.am_watch.specs.inside.Rows.{IsCutAt};
 ghost use Rattle.am_watch.specs.Watching.{Extends, IsTrueUpTo, IsGuarded, IsWatched, IsPropagated, clause_at};
 ghost use Rattle.am_watch.specs.Watching.{empty_trail};
-ghost use Rattle.am_watch.specs.inside.Sweeps.{IsLookedAt, AreLookedAt, IsSwept, IsTurn, IsVisited, HasStepped};
+ghost use Rattle.am_watch.specs.inside.Sweeps.{IsLookedAt, AreLookedAt, IsSwept, IsWatchTurn, IsVisited, HasStepped};
 
 use crate::lists::Lists;
 use crate::looks::{
@@ -35,11 +35,11 @@ pub struct Watches {
 }
 
 impl Watches {
-    ghost use Rattle.am_watch.specs.inside.Kept.{IsKept};
+    ghost use Rattle.am_watch.specs.inside.Kept.{AreKeptWatches};
 
     /// The watches of a formula's clauses, for an empty trail.
     pub fn new(alloc: Global, formula: &Formula) -> Result<Watches, AllocError>
-        ensures { IfOk result (λ w. IsKept w formula.now.clauses (empty_trail formula.now.vars)) }
+        ensures { IfOk result (λ w. AreKeptWatches w formula.now.clauses (empty_trail formula.now.vars)) }
     {
         let mut watch = Watches {
             lists: Lists::new(alloc, formula.vars)?,
@@ -83,12 +83,12 @@ impl Watches {
         other: Lit,
         next: Lit,
     ) -> Result<(), AllocError>
-        requires holds { IsKept self.old (given.now ++ learnt.now) trail.now }
-        requires turn { IsTurn self.old.lists self.old.pairs.items (given.now ++ learnt.now)
+        requires holds { AreKeptWatches self.old (given.now ++ learnt.now) trail.now }
+        requires turn { IsWatchTurn self.old.lists self.old.pairs.items (given.now ++ learnt.now)
             (literals trail.now.entries) l j number other next }
         requires l { l < length self.old.lists }
         requires next { next < length self.old.lists }
-        ensures holds { OnOk result (IsKept self.new (given.now ++ learnt.now) trail.now) }
+        ensures holds { OnOk result (AreKeptWatches self.new (given.now ++ learnt.now) trail.now) }
         ensures cut { OnOk result (IsCutAt j (list_at self.old.lists l) (list_at self.new.lists l)) }
         ensures fresh { self.new.fresh.items ≡ self.old.fresh.items }
     {
@@ -114,12 +114,12 @@ impl Watches {
         l: Lit,
         j: usize,
     ) -> Result<Visit, AllocError>
-        requires holds { IsKept self.old (given.now ++ learnt.now) trail.old }
+        requires holds { AreKeptWatches self.old (given.now ++ learnt.now) trail.old }
         requires number { length (given.now ++ learnt.now) < 2 ^ 32 }
         requires untrue { Contains (literals trail.old.entries) (opposite_of l) }
         requires l { l < length self.old.lists }
         requires j { j < length (list_at self.old.lists l) }
-        ensures holds { OnOk result (IsKept self.new (given.now ++ learnt.now) trail.new) }
+        ensures holds { OnOk result (AreKeptWatches self.new (given.now ++ learnt.now) trail.new) }
         ensures extends { Extends (given.now ++ learnt.now) trail.old trail.new }
         ensures head { trail.new.head ≡ trail.old.head }
         ensures visited { IfOk result
@@ -159,11 +159,11 @@ impl Watches {
         learnt: &Clauses,
         l: Lit,
     ) -> Result<Option<u32>, AllocError>
-        requires holds { IsKept self.old (given.now ++ learnt.now) trail.old }
+        requires holds { AreKeptWatches self.old (given.now ++ learnt.now) trail.old }
         requires number { length (given.now ++ learnt.now) < 2 ^ 32 }
         requires untrue { Contains (literals trail.old.entries) (opposite_of l) }
         requires l { l < length self.old.lists }
-        ensures holds { OnOk result (IsKept self.new (given.now ++ learnt.now) trail.new) }
+        ensures holds { OnOk result (AreKeptWatches self.new (given.now ++ learnt.now) trail.new) }
         ensures extends { Extends (given.now ++ learnt.now) trail.old trail.new }
         ensures head { trail.new.head ≡ trail.old.head }
         ensures swept { IfOk result (IsSwept (given.now ++ learnt.now) l self.new.lists trail.new.entries) }
@@ -190,13 +190,13 @@ impl Watches {
         number: u32,
         pair: Pair,
     ) -> Result<(), AllocError>
-        requires holds { IsKept self.old (given.now ++ learnt.now) trail.now }
+        requires holds { AreKeptWatches self.old (given.now ++ learnt.now) trail.now }
         requires k { k < length self.old.fresh.items }
         requires number { (d : ℕ) → slice_index_or self.old.fresh.items k d ≡ number }
         requires pair { IsPairOf (clause_at (given.now ++ learnt.now) number) pair }
         requires first { IsGuarded trail.now (clause_at (given.now ++ learnt.now) number) pair.first }
         requires second { IsGuarded trail.now (clause_at (given.now ++ learnt.now) number) pair.second }
-        ensures holds { OnOk result (IsKept self.new (given.now ++ learnt.now) trail.now) }
+        ensures holds { OnOk result (AreKeptWatches self.new (given.now ++ learnt.now) trail.now) }
         ensures cut { OnOk result (IsCutAt k self.old.fresh.items self.new.fresh.items) }
     {
         let Pair { first, second } = pair;
@@ -224,11 +224,11 @@ impl Watches {
         k: usize,
         number: u32,
     )
-        requires holds { IsKept self.old (given.now ++ learnt.now) trail.now }
+        requires holds { AreKeptWatches self.old (given.now ++ learnt.now) trail.now }
         requires k { k < length self.old.fresh.items }
         requires number { (d : ℕ) → slice_index_or self.old.fresh.items k d ≡ number }
         requires settled { IsTrueUpTo trail.now.entries (clause_at (given.now ++ learnt.now) number) 0 }
-        ensures holds { IsKept self.new (given.now ++ learnt.now) trail.now }
+        ensures holds { AreKeptWatches self.new (given.now ++ learnt.now) trail.now }
         ensures cut { IsCutAt k self.old.fresh.items self.new.fresh.items }
     {
         let _ = self.fresh.swap_remove(k);
@@ -244,10 +244,10 @@ impl Watches {
         learnt: &Clauses,
         k: usize,
     ) -> Result<Visit, AllocError>
-        requires holds { IsKept self.old (given.now ++ learnt.now) trail.old }
+        requires holds { AreKeptWatches self.old (given.now ++ learnt.now) trail.old }
         requires number { length (given.now ++ learnt.now) < 2 ^ 32 }
         requires k { k < length self.old.fresh.items }
-        ensures holds { OnOk result (IsKept self.new (given.now ++ learnt.now) trail.new) }
+        ensures holds { OnOk result (AreKeptWatches self.new (given.now ++ learnt.now) trail.new) }
         ensures extends { Extends (given.now ++ learnt.now) trail.old trail.new }
         ensures head { trail.new.head ≡ trail.old.head }
         ensures looked { IfOk result
@@ -284,9 +284,9 @@ impl Watches {
         given: &Clauses,
         learnt: &Clauses,
     ) -> Result<Option<u32>, AllocError>
-        requires holds { IsKept self.old (given.now ++ learnt.now) trail.old }
+        requires holds { AreKeptWatches self.old (given.now ++ learnt.now) trail.old }
         requires number { length (given.now ++ learnt.now) < 2 ^ 32 }
-        ensures holds { OnOk result (IsKept self.new (given.now ++ learnt.now) trail.new) }
+        ensures holds { OnOk result (AreKeptWatches self.new (given.now ++ learnt.now) trail.new) }
         ensures extends { Extends (given.now ++ learnt.now) trail.old trail.new }
         ensures looked { IfOk result (AreLookedAt (given.now ++ learnt.now) self.new.fresh.items trail.new.entries) }
     {
@@ -308,10 +308,10 @@ impl Watches {
         given: &Clauses,
         learnt: &Clauses,
     ) -> Result<Option<u32>, AllocError>
-        requires holds { IsKept self.old (given.now ++ learnt.now) trail.old }
+        requires holds { AreKeptWatches self.old (given.now ++ learnt.now) trail.old }
         requires number { length (given.now ++ learnt.now) < 2 ^ 32 }
         requires head { trail.old.head < length trail.old.entries }
-        ensures holds { OnOk result (IsKept self.new (given.now ++ learnt.now) trail.new) }
+        ensures holds { OnOk result (AreKeptWatches self.new (given.now ++ learnt.now) trail.new) }
         ensures extends { Extends (given.now ++ learnt.now) trail.old trail.new }
         ensures fresh { self.new.fresh.items ≡ self.old.fresh.items }
         ensures stepped { IfOk result (HasStepped (given.now ++ learnt.now) trail.old trail.new) }
@@ -333,9 +333,9 @@ impl Watches {
         given: &Clauses,
         learnt: &Clauses,
     ) -> Result<Option<u32>, AllocError>
-        requires holds { IsKept self.old (given.now ++ learnt.now) trail.old }
+        requires holds { AreKeptWatches self.old (given.now ++ learnt.now) trail.old }
         requires number { length (given.now ++ learnt.now) < 2 ^ 32 }
-        ensures holds { OnOk result (IsKept self.new (given.now ++ learnt.now) trail.new) }
+        ensures holds { OnOk result (AreKeptWatches self.new (given.now ++ learnt.now) trail.new) }
         ensures extends { Extends (given.now ++ learnt.now) trail.old trail.new }
         ensures answer { IfOk result (IsPropagated (given.now ++ learnt.now) trail.new) }
     {

@@ -12,7 +12,7 @@ use Rattle.am_chain.specs.declared.chain.Chain.{Chain}
 use Rattle.am_cert.specs.Certificate.{Certificate, IsCertificate}
 use Rattle.am_cert.specs.Grammar.{best, outcome, result_term, shape_of}
 use Rattle.am_domain.specs.Question.{IsSound}
-use Rattle.am_flow.specs.Flows.{AllFit, AreOperations, Fits, Flow, IsFlow, IsOperation, Operation, signature_of}
+use Rattle.am_flow.specs.Flows.{AllFit, AreOperations, Fits, Flow, IsFlow, IsFlowOperation, Operation, signature_of}
 use Rattle.am_flow.specs.Runs.{AllSound}
 use Rattle.am_problem.specs.Examples.{IsTransformer, all_fields}
 use Rattle.am_problem.specs.Problem.{Problem, question_of}
@@ -93,7 +93,7 @@ module _ (f : Flow) (cs : List Certificate) (fit : AllFit f (map signature cs)) 
         let of = certificate_at cs i o e in
         let c = of.certificate in
         let good = all_here IsCertificate cs i c of.here limits in
-        subst (IsOperation f i) of.is (record {
+        subst (IsFlowOperation f i) of.is (record {
           fits = fits_at i c of.here;
           problem = good.problem;
           transformer = transformer_of c.problem c.outcome (best_at i c of.here) good.outcome;

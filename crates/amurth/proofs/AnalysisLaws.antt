@@ -22,7 +22,7 @@ use Rattle.am_cert.specs.Texts.{Draft, IsShort, answered, draft, settled}
 use Rattle.am_cert.specs.Versions.{has_hints}
 use Rattle.am_cert.proofs.Laws.{answered_law, draft_shape, heading_law, left_short, reached_length, reached_short}
 use Rattle.am_cert.proofs.Laws.{text_short}
-use Rattle.amurth.specs.Analysed.{all_settled, behind, certificate_behind}
+use Rattle.amurth.specs.Analysed.{all_settled, behind, certificate_after}
 use Rattle.amurth.specs.inside.Analyses.{ReadsAt}
 use Rattle.amurth.specs.declared.limits.TheConstants.{MOST_CERTIFICATES}
 
@@ -68,17 +68,18 @@ unfolding judged
 refused_draft s t d e = none_read s.tokens s.end d t e
 
 -- a certificate after others takes a token at least
-pub behind_moves : MovesOn certificate_behind
-behind_moves seen s d t e =
+pub certificate_moves_on : MovesOn certificate_after
+certificate_moves_on seen s d t e =
     elim (chosen (nat_lt (length seen) MOST_CERTIFICATES) (draft s) (judged (λ _. Err Count) s) (Ok (d, t)) e) [
       | inl more ↦ draft_moves s t d more.1
       | inr none ↦ absurd (refused_draft s t d none.1)
     ]
 
 -- .. and leaves a short text short
-pub behind_short : (seen : List Draft) (s t : Left) (d : Draft) → certificate_behind seen s ≡ Ok (d, t) → IsShort s →
+pub certificate_leaves_short : (seen : List Draft) (s t : Left) (d : Draft) → certificate_after seen s ≡ Ok (d, t) →
+    IsShort s →
     IsShort t
-behind_short seen s t d e short =
+certificate_leaves_short seen s t d e short =
     elim (chosen (nat_lt (length seen) MOST_CERTIFICATES) (draft s) (judged (λ _. Err Count) s) (Ok (d, t)) e) [
       | inl more ↦ draft_short s t d more.1 short
       | inr none ↦ absurd (refused_draft s t d none.1)
@@ -91,17 +92,17 @@ abbrev pub prefixed : List Certificate → Result (List Certificate) Refusal →
 prefixed front (Ok cs) = Ok (front ++ cs)
 prefixed front (Err r) = Err r
 
-prefixed_behind : (front : List Certificate) (c : Certificate) (rest : Result (List Certificate) Refusal) →
+prefixed_after : (front : List Certificate) (c : Certificate) (rest : Result (List Certificate) Refusal) →
     prefixed front (behind (Ok c) rest) ≡ prefixed (front ++ c ∷ []) rest
-prefixed_behind front c (Ok cs) = ap (λ (xs : List Certificate). Ok xs) (sym (append_assoc front (c ∷ []) cs))
-prefixed_behind front c (Err r) = refl
+prefixed_after front c (Ok cs) = ap (λ (xs : List Certificate). Ok xs) (sym (append_assoc front (c ∷ []) cs))
+prefixed_after front c (Err r) = refl
 
 -- one more draft is settled
 pub settled_more : (front : List Certificate) (d : Draft) (ds : List Draft) (c : Certificate) → settled d ≡ Ok c →
     prefixed front (all_settled (d ∷ ds)) ≡ prefixed (front ++ c ∷ []) (all_settled ds)
 settled_more front d ds c e =
     ap (λ (r : Result Certificate Refusal). prefixed front (behind r (all_settled ds))) e
-    ∙ prefixed_behind front c (all_settled ds)
+    ∙ prefixed_after front c (all_settled ds)
 
 -- a draft is refused
 pub settled_stops : (front : List Certificate) (d : Draft) (ds : List Draft) (r : Refusal) → settled d ≡ Err r →
@@ -159,13 +160,14 @@ settled_length (d ∷ ds) cs e =
 -- a certificate after those that were read is refused
 pub loop_refused : {A : Type 0} (view : A → List Draft) (result : Result A ReadError) (e : ReadError) → result ≡ Err e →
     (seen : List Draft) (s left : Left) (all : Read (List Draft)) → next_is (codes "certificate") (words s) ≡ true →
-    repeat_from (next_is (codes "certificate")) certificate_behind seen s ≡ all →
-    ReadsAt (λ (d : Draft). d) (Err e) left (certificate_behind seen s) → ReadsAt view result left all
+    repeat_from (next_is (codes "certificate")) certificate_after seen s ≡ all →
+    ReadsAt (λ (d : Draft). d) (Err e) left (certificate_after seen s) → ReadsAt view result left all
 loop_refused {A = A} view result e is seen s left all comes so_far h =
     subst (λ (q : Result A ReadError). ReadsAt view q left all) (sym is)
-    (reads_err (λ (d : Draft). d) view e left (certificate_behind seen s) all
+    (reads_err (λ (d : Draft). d) view e left (certificate_after seen s) all
     (λ stop refused.
-    so_far_fails (next_is (codes "certificate")) certificate_behind behind_moves seen s stop all comes refused so_far)
+    so_far_fails (next_is (codes "certificate")) certificate_after certificate_moves_on seen s stop all comes refused
+    so_far)
     h)
 
 -- an input is short

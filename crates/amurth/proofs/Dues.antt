@@ -5,7 +5,7 @@ use Rattle.std.specs.Prelude.{Contains, IfOk, Result}
 use Rattle.std.specs.declared.option.Option.{Option}
 use Rattle.am_cert.specs.declared.limits.TheConstants.{MOST_BYTES}
 use Rattle.am_cert.specs.Certificate.{Certificate}
-use Rattle.am_cert.specs.Texts.{Reads as ReadsCertificate, certificate_of}
+use Rattle.am_cert.specs.Texts.{ReadsAsCertificate as ReadsCertificate, certificate_of}
 use Rattle.am_io.specs.Streams.{Loses}
 use Rattle.am_problem.specs.Problem.{Problem}
 use Rattle.am_query.specs.declared.outcome.Outcome.{Outcome}
@@ -13,7 +13,7 @@ use Rattle.am_query.specs.declared.outcome.Outcome.TheVariants.{Absent, Best, Co
 use Rattle.am_syntax.specs.declared.refusal.Refusal.{Refusal}
 use Rattle.am_syntax.specs.declared.refusal.Refusal.TheVariants.{Long}
 use Rattle.amurth.specs.Analysed.{Analysis, IsAnalysisDue}
-use Rattle.amurth.specs.Answers.{IsAnswer, IsTextOf}
+use Rattle.amurth.specs.Answers.{IsAnswer, IsInputText}
 use Rattle.amurth.specs.Checked.{IsJudged}
 use Rattle.amurth.specs.Lines.{refusal_line}
 use Rattle.amurth.specs.Listed.{IsListing}
@@ -30,7 +30,7 @@ use Rattle.amurth.specs.declared.status.Status.TheVariants.{Refused}
 
 -- what is due to a value is the answer to each text of it
 pub answered : {A E : Type 0} (Reads : List ℕ → A → Type 0) (value_of : List ℕ → Result A Refusal)
-    (Due : A → Status → List ℕ → Type 0) (input : List ℕ) (value : A) → IsTextOf Reads input value →
+    (Due : A → Status → List ℕ → Type 0) (input : List ℕ) (value : A) → IsInputText Reads input value →
     (result : Result Response E) → IfOk result (λ (r : Response). Due value r.status r.text.items) →
     IfOk result (λ (r : Response). IsAnswer Reads value_of Due r.status input r.text.items)
 answered Reads value_of Due input value text (Ok r) due = inl (record { value = value; text = text; due = due })

@@ -4,7 +4,8 @@ use Rattle.std.specs.List.{range_with_len}
 use Rattle.std.proofs.Math.Nat.{mod-lt}
 use Rattle.am_bv.specs.declared.op.Op.{Op}
 use Rattle.std.specs.Prelude.{slice_index_or}
-use Rattle.am_problem.specs.Generator.{argument_operator, made, made_kinds, made_operator, made_width, rules_of}
+use Rattle.am_problem.specs.Generator.{argument_operator, made_kinds, made_operator, made_problem_of, made_width}
+use Rattle.am_problem.specs.Generator.{rules_of}
 use Rattle.am_problem.specs.Kinds.{abstraction_of, fields_of}
 use Rattle.am_problem.specs.declared.kind.Kind.{Kind}
 use Rattle.am_problem.specs.declared.kind.Kind.TheVariants.{UInterval}
@@ -58,7 +59,7 @@ module _ (o1 o2 o3 o4 : Op) where
     kind_few (suc (suc (suc (suc (suc i))))) = two_few _ _ digit below
 
 -- the tuples of trees of a made problem have a number of 64 bits
-pub made_few : (n : ℕ) → let p = made n in tuple_count p.rules p.starts p.depth < 2 ^ 64
+pub made_few : (n : ℕ) → let p = made_problem_of n in tuple_count p.rules p.starts p.depth < 2 ^ 64
 made_few n =
     let s = n / 840 in
     kind_few (made_operator s) (made_operator (s / 8 + 1)) (made_operator (s / 64 + 3)) (argument_operator s)

@@ -3,7 +3,7 @@ use Rattle.std.proofs.Common.{◌≡◌, ◌≤◌, ℕ, List, length, Ok, Err, 
 use Rattle.std.specs.Prelude.{◌⊎◌, IfOk, Result}
 use Rattle.am_cert.specs.Certificate.{Certificate, IsCertificate}
 use Rattle.am_cert.specs.Checking.{IsInputOf, IsVerdict}
-use Rattle.am_cert.specs.Texts.{Reads, certificate_of}
+use Rattle.am_cert.specs.Texts.{ReadsAsCertificate, certificate_of}
 use Rattle.am_cert.specs.declared.feed.FeedEnd.{FeedEnd}
 use Rattle.am_cert.specs.declared.feed.FeedEnd.TheVariants as feed
 use Rattle.am_cert.specs.declared.limits.TheConstants.{MOST_BYTES}
@@ -15,7 +15,7 @@ use Rattle.am_query.specs.Acceptance.{IsAccepted}
 use Rattle.am_query.specs.declared.outcome.Outcome.{Outcome}
 use Rattle.am_query.specs.declared.outcome.Outcome.TheVariants.{Absent, Best, Conflicts, Turns}
 use Rattle.am_syntax.specs.declared.refusal.Refusal.{Refusal}
-use Rattle.amurth.specs.Answers.{IsAnswer, IsRefusalBy, IsTextOf}
+use Rattle.amurth.specs.Answers.{IsAnswer, IsInputText, IsRefusalBy}
 use Rattle.amurth.specs.Checked.{IsCheckDue, IsJudged}
 use Rattle.amurth.specs.Lines.{refusal_line}
 use Rattle.amurth.specs.Synthesised.{IsSynthesised, certificate, status_of}
@@ -39,7 +39,11 @@ own_input input written s short =
     let is : IsCertificate c =
     outcomes_are_writable Two s.value s.due.outcome refl s.text.reads.limits
     (synthesis_writable s.value s.due.outcome s.due.synthesis.synthesis) in
-    record { short = short; reads = subst (λ text. Reads text c) (sym s.due.wrote) (printed_certificates_read c is) }
+    record {
+      short = short;
+      reads = subst (λ text. ReadsAsCertificate text c) (sym s.due.wrote)
+          (printed_certificates_read c is);
+    }
 
 -- it gets no other verdict
 own_verdict : (input written : List ℕ) → IsSynthesised Done input written → length written ≤ MOST_BYTES →
@@ -54,7 +58,7 @@ no_fault : {P : Type 0} (e : FeedEnd) (verdict : Result (Unit {0}) FeedEnd) → 
 no_fault e verdict is (inl ok) other = cc (is, ok)
 no_fault e verdict is (inr none) other = absurd (other (cc (is, none)))
 
-own_judged : (c : Certificate) (status : Status) (text written : List ℕ) → IsTextOf Reads text c →
+own_judged : (c : Certificate) (status : Status) (text written : List ℕ) → IsInputText ReadsAsCertificate text c →
     IsJudged c status written →
     (input : List ℕ) → IsSynthesised Done input text → length text ≤ MOST_BYTES → status ≡ Done
 own_judged c status text written is (inl passed) input s short = passed.ended
@@ -63,7 +67,8 @@ own_judged c status text written is (inr faulty) input s short =
     (own_verdict input text s short (Err (feed.Rejected faulty.fault))
     (c, record { short = is.short; reads = is.reads }, faulty.has)) (λ e. cc)
 
-own_accepted : (status : Status) (text written : List ℕ) → IsAnswer Reads certificate_of IsJudged status text written →
+own_accepted : (status : Status) (text written : List ℕ) → IsAnswer ReadsAsCertificate certificate_of IsJudged status
+    text written →
     (input : List ℕ) → IsSynthesised Done input text → length text ≤ MOST_BYTES → status ≡ Done
 own_accepted status text written (inl h) input s short =
     own_judged h.value status text written h.text h.due input s short
@@ -73,7 +78,7 @@ own_accepted status text written (inr h) input s short =
 
 -- the answer to a text is due to it
 pub check_due : {E : Type 0} (text : List ℕ) (result : Result Response E) →
-    IfOk result (λ (r : Response). IsAnswer Reads certificate_of IsJudged r.status text r.text.items) →
+    IfOk result (λ (r : Response). IsAnswer ReadsAsCertificate certificate_of IsJudged r.status text r.text.items) →
     IfOk result (λ (r : Response). IsCheckDue r.status text r.text.items)
 check_due text (Ok r) h = record { answer = h; own = own_accepted r.status text r.text.items h }
 check_due text (Err e) h = tt
@@ -84,7 +89,7 @@ pub refused_due : {E : Type 0} (text : List ℕ) (refusal : Refusal) → IsRefus
     IfOk result (λ (r : Response). (r.status ≡ Refused) × (r.text.items ≡ refusal_line refusal)) →
     IfOk result (λ (r : Response). IsCheckDue r.status text r.text.items)
 refused_due text refusal first (Ok r) h =
-    let answer : IsAnswer Reads certificate_of IsJudged r.status text r.text.items =
+    let answer : IsAnswer ReadsAsCertificate certificate_of IsJudged r.status text r.text.items =
     inr (record { ended = h.0; refusal = refusal; first = first; wrote = h.1 }) in
     record { answer = answer; own = own_accepted r.status text r.text.items answer }
 refused_due text refusal first (Err e) h = tt

@@ -1,7 +1,6 @@
 -- What `analyse` reads, certificates and then a flow, and what it writes: the flow's table.
 use Rattle.std.specs.Prelude.{◌≡◌, ℕ, ◌⊎◌, Bool, false, true, nat_lt, List, [], ◌∷◌, All, decimal, codes, length, map}
-use Rattle.std.specs.Prelude.{take, Option, None, Some, Result, Ok, Err, slice_get, if◌then◌else◌}
-use Rattle.am_text.specs.Tokens.{bad_byte, text_left}
+use Rattle.std.specs.Prelude.{take, Some, Result, Ok, Err, slice_get, if◌then◌else◌}
 use Rattle.am_bv.specs.declared.term.Term.{Term}
 use Rattle.am_cert.specs.Certificate.{Certificate}
 use Rattle.am_cert.specs.Checking.{HasFault}
@@ -17,14 +16,13 @@ use Rattle.am_query.specs.declared.outcome.Outcome.{Outcome}
 use Rattle.am_query.specs.declared.outcome.Outcome.TheVariants.{Absent, Best, Conflicts, Turns}
 use Rattle.am_syntax.specs.Pieces.{next_is, repeat_from}
 use Rattle.am_syntax.specs.Readers.{◌>>=◌, Reader, done, judged}
-use Rattle.am_syntax.specs.Texts.{whole}
+use Rattle.am_syntax.specs.Texts.{read_whole}
 use Rattle.am_syntax.specs.declared.refusal.Cause.TheVariants.{Count}
 use Rattle.am_syntax.specs.declared.refusal.Refusal.{Refusal}
-use Rattle.am_syntax.specs.declared.refusal.Refusal.TheVariants.{BadByte, Mismatch}
+use Rattle.am_syntax.specs.declared.refusal.Refusal.TheVariants.{Mismatch}
 use Rattle.amurth.specs.Answers.{IsAnswer}
 use Rattle.amurth.specs.Checked.{IsProved}
 use Rattle.amurth.specs.Lines.{fault_line, refusal_line}
-use Rattle.amurth.specs.declared.limits.TheConstants.{MOST_CERTIFICATES}
 use Rattle.amurth.specs.declared.status.Status.{Status}
 use Rattle.amurth.specs.declared.status.Status.TheVariants.{Done, Refused, Rejected}
 
@@ -36,24 +34,19 @@ pub record Analysis : Type 0 where
   pub flow : Flow
 
 -- a certificate after others, of so many at most
-abbrev pub certificate_behind : List Draft → Reader Draft
-certificate_behind seen = λ s. if nat_lt (length seen) MOST_CERTIFICATES then draft s else judged (λ _. Err Count) s
+abbrev pub certificate_after : List Draft → Reader Draft
+certificate_after seen = λ s. if nat_lt (length seen) 16 then draft s else judged (λ _. Err Count) s
 
 -- certificates, and then a flow
 abbrev pub drafts : Reader (List Draft × Flow)
 drafts =
-    repeat_from (next_is (codes "certificate")) certificate_behind [] >>= λ cs.
+    repeat_from (next_is (codes "certificate")) certificate_after [] >>= λ cs.
     (flow (length cs)).read >>= λ f.
     done (cs, f)
 
--- the drafts of a text, unless a byte is refused
-abbrev pub drafted : List ℕ → Option ℕ → Result (List Draft × Flow) Refusal
-drafted text (Some place) = Err (BadByte place)
-drafted text None = whole (drafts (text_left text))
-
 -- the drafts of a text, or the first refusal of its bytes and tokens
 abbrev pub drafts_of : List ℕ → Result (List Draft × Flow) Refusal
-drafts_of text = drafted text (bad_byte text)
+drafts_of text = read_whole drafts text
 
 -- a certificate before others, or the first refusal
 abbrev pub behind : Result Certificate Refusal → Result (List Certificate) Refusal → Result (List Certificate) Refusal

@@ -1,6 +1,5 @@
 -- What is written for the text of an input: what is due to its value, or the line of its first refusal.
-use Rattle.std.specs.Prelude.{◌≡◌, ℕ, ◌≤◌, ◌<◌, ◌⊎◌, List, Err, Result, length}
-use Rattle.am_cert.specs.declared.limits.TheConstants.{MOST_BYTES}
+use Rattle.std.specs.Prelude.{◌≡◌, ℕ, ◌^◌, ◌≤◌, ◌<◌, ◌⊎◌, List, Err, Result, length}
 use Rattle.am_syntax.specs.declared.refusal.Refusal.{Refusal}
 use Rattle.am_syntax.specs.declared.refusal.Refusal.TheVariants.{Long}
 use Rattle.amurth.specs.Lines.{refusal_line}
@@ -8,14 +7,14 @@ use Rattle.amurth.specs.declared.status.Status.{Status}
 use Rattle.amurth.specs.declared.status.Status.TheVariants.{Refused}
 
 -- the input is this value's text, and isn't too long
-pub record IsTextOf {A : Type 0} (Reads : List ℕ → A → Type 0) (input : List ℕ) (value : A) : Type 0 where
-  pub short : length input ≤ MOST_BYTES
+pub record IsInputText {A : Type 0} (Reads : List ℕ → A → Type 0) (input : List ℕ) (value : A) : Type 0 where
+  pub short : length input ≤ 2 ^ 26
   pub reads : Reads input value
 
 -- the refusal of an input: that it is too long, or the first of its text
 abbrev pub IsRefusalBy : {A : Type 0} → (List ℕ → Result A Refusal) → List ℕ → Refusal → Type 0
 IsRefusalBy value_of input r =
-    ((MOST_BYTES < length input) × (r ≡ Long)) ⊎ ((length input ≤ MOST_BYTES) × (value_of input ≡ Err r))
+    ((2 ^ 26 < length input) × (r ≡ Long)) ⊎ ((length input ≤ 2 ^ 26) × (value_of input ≡ Err r))
 
 -- the input is refused, and the line that says why is written
 pub record IsRefusedBy {A : Type 0} (value_of : List ℕ → Result A Refusal) (status : Status) (input written : List ℕ)
@@ -29,7 +28,7 @@ pub record IsRefusedBy {A : Type 0} (value_of : List ℕ → Result A Refusal) (
 pub record IsAnsweredBy {A : Type 0} (Reads : List ℕ → A → Type 0) (IsDue : A → Status → List ℕ → Type 0)
     (status : Status) (input written : List ℕ) : Type 0 where
   pub value : A
-  pub text : IsTextOf Reads input value
+  pub text : IsInputText Reads input value
   pub due : IsDue value status written
 
 -- what is written for an input: what is due to its value, or why it has none

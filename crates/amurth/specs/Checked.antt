@@ -1,9 +1,8 @@
 -- What `check` writes: that a certificate is accepted, or why it isn't.
-use Rattle.std.specs.Prelude.{◌≡◌, ℕ, ◌≤◌, ◌⊎◌, List, [], ◌∷◌, codes, length}
+use Rattle.std.specs.Prelude.{◌≡◌, ℕ, ◌^◌, ◌≤◌, ◌⊎◌, List, [], ◌∷◌, codes, length}
 use Rattle.am_cert.specs.Certificate.{Certificate}
 use Rattle.am_cert.specs.Checking.{HasFault, IsAcceptable}
-use Rattle.am_cert.specs.Texts.{Reads, certificate_of}
-use Rattle.am_cert.specs.declared.limits.TheConstants.{MOST_BYTES}
+use Rattle.am_cert.specs.Texts.{ReadsAsCertificate, certificate_of}
 use Rattle.am_query.specs.AcceptanceLaws.{IsRight}
 use Rattle.am_query.specs.declared.fault.Fault.{Fault}
 use Rattle.am_syntax.specs.Canonical.{line}
@@ -42,5 +41,5 @@ IsJudged c status written = IsPassed c status written ⊎ IsFaulty c status writ
 -- what `check` writes for an input, by the status after it; what `synth` wrote as done, and isn't too long, is
 -- accepted
 pub record IsCheckDue (status : Status) (input written : List ℕ) : Type 0 where
-  pub answer : IsAnswer Reads certificate_of IsJudged status input written
-  pub own : (problem : List ℕ) → IsSynthesised Done problem input → length input ≤ MOST_BYTES → status ≡ Done
+  pub answer : IsAnswer ReadsAsCertificate certificate_of IsJudged status input written
+  pub own : (problem : List ℕ) → IsSynthesised Done problem input → length input ≤ 2 ^ 26 → status ≡ Done

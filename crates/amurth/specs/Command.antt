@@ -1,6 +1,5 @@
 -- The commands, and the words that call for them.
 use Rattle.std.specs.Prelude.{◌≡◌, ◌≤◌, ℕ, List, [], ◌∷◌, codes, decimal}
-use Rattle.am_problem.specs.declared.generator.TheConstants.{LAST_PROBLEM}
 use Rattle.amurth.specs.declared.command.Command.{Command}
 use Rattle.amurth.specs.declared.command.Command.TheVariants.{Analyse, Check, List as ListCommand, Make, Synth}
 use Rattle.amurth.specs.declared.command.Command.TheVariants.{Translate}
@@ -15,14 +14,14 @@ words_of ListCommand = codes "list" ∷ []
 words_of (Make n) = codes "make" ∷ decimal n ∷ []
 
 -- the number of a made problem is one of those from 0 to the last
-abbrev pub IsNumbered : Command → Type 0
-IsNumbered Synth = Unit {0}
-IsNumbered Check = Unit {0}
-IsNumbered Translate = Unit {0}
-IsNumbered Analyse = Unit {0}
-IsNumbered ListCommand = Unit {0}
-IsNumbered (Make n) = n ≤ LAST_PROBLEM
+abbrev pub IsNumberedCommand : Command → Type 0
+IsNumberedCommand Synth = Unit {0}
+IsNumberedCommand Check = Unit {0}
+IsNumberedCommand Translate = Unit {0}
+IsNumberedCommand Analyse = Unit {0}
+IsNumberedCommand ListCommand = Unit {0}
+IsNumberedCommand (Make n) = n ≤ 999999
 
 -- the words call for the command
 abbrev pub IsCommand : List (List ℕ) → Command → Type 0
-IsCommand words command = (words ≡ words_of command) × IsNumbered command
+IsCommand words command = (words ≡ words_of command) × IsNumberedCommand command

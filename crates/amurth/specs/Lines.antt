@@ -1,6 +1,5 @@
 -- The lines of refusals and of faults.
-use Rattle.std.specs.Prelude.{ℕ, List, [], ◌∷◌, ◌++◌, codes, decimal}
-use Rattle.am_cert.specs.declared.limits.TheConstants.{MOST_BYTES}
+use Rattle.std.specs.Prelude.{ℕ, ◌^◌, List, [], ◌∷◌, ◌++◌, codes, decimal}
 use Rattle.am_chain.specs.declared.fault.Why.{Why}
 use Rattle.am_chain.specs.declared.fault.Why.TheVariants.{NoClause, NoPivot}
 use Rattle.am_hint.specs.declared.fault.HintWhy.{HintWhy}
@@ -31,7 +30,7 @@ refusal_line (Undefined at) = refused (codes "Undefined") at
 refusal_line (Slots n) = refused (codes "Slots") n
 refusal_line (Load n) = refused (codes "Load") n
 refusal_line (Mismatch n) = refused (codes "Mismatch") n
-refusal_line Long = refused (codes "Long") MOST_BYTES
+refusal_line Long = refused (codes "Long") (2 ^ 26)
 refusal_line (Wide n) = refused (codes "Wide") n
 refusal_line (Many n) = refused (codes "Many") n
 

@@ -1,10 +1,10 @@
 -- What `list` writes: all best tuples of a small problem.
 use Rattle.std.specs.Prelude.{◌≡◌, ℕ, ◌⊎◌, List, [], ◌∷◌, codes, decimal, flat_map, length, map}
 use Rattle.am_all.specs.AllBest.{AreAllBest}
-use Rattle.am_all.specs.Sizes.{IsSmall, IsTooGreat}
+use Rattle.am_all.specs.Sizes.{IsSmallProblem, IsTooGreat}
 use Rattle.am_bv.specs.declared.term.Term.{Term}
 use Rattle.am_problem.specs.Problem.{Problem}
-use Rattle.am_problem.specs.Texts.{Reads, problem_of}
+use Rattle.am_problem.specs.Texts.{ReadsAsProblem, problem_of}
 use Rattle.am_syntax.specs.Canonical.{lines}
 use Rattle.am_syntax.specs.Readers.{Words}
 use Rattle.am_syntax.specs.Spelling.{letter_code, term_words}
@@ -29,7 +29,7 @@ list_text p tuples =
 -- the problem is small, and all its best tuples are written
 pub record AreListed (p : Problem) (status : Status) (written : List ℕ) : Type 0 where
   pub ended : status ≡ Done
-  pub small : IsSmall p
+  pub small : IsSmallProblem p
   pub tuples : List (List Tree)
   pub all : AreAllBest p tuples
   pub wrote : written ≡ list_text p tuples
@@ -47,4 +47,4 @@ IsListing p status written = AreListed p status written ⊎ IsDeclined p status 
 
 -- what `list` writes for an input, by the status after it
 abbrev pub IsListDue : Status → List ℕ → List ℕ → Type 0
-IsListDue = IsAnswer Reads problem_of IsListing
+IsListDue = IsAnswer ReadsAsProblem problem_of IsListing

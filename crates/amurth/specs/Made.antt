@@ -2,7 +2,7 @@
 use Rattle.std.specs.Prelude.{◌≡◌, ℕ, List, [], ◌∷◌, codes, decimal, map}
 use Rattle.am_bv.specs.declared.term.Term.{Term}
 use Rattle.am_cert.specs.Printing.{certificate_text, term_row}
-use Rattle.am_problem.specs.Generator.{made}
+use Rattle.am_problem.specs.Generator.{made_problem_of}
 use Rattle.am_problem.specs.Limits.{slots_of}
 use Rattle.am_problem.specs.Loads.{load_of}
 use Rattle.am_query.specs.declared.outcome.Outcome.{Outcome}
@@ -20,7 +20,7 @@ number_row key n = key ∷ decimal n ∷ []
 -- the number of the problem, its slots, its tuples of trees and its load, and best terms
 abbrev pub summary : ℕ → List Term → List ℕ
 summary n terms =
-    let p = made n in
+    let p = made_problem_of n in
     lines (
     number_row (codes "make") n ∷
     number_row (codes "slots") (slots_of p) ∷
@@ -33,12 +33,12 @@ summary n terms =
 abbrev pub IsMadeText : ℕ → Outcome → List ℕ → Type 0
 IsMadeText n (Best t trace sound_log best_log) written = written ≡ summary n t
 IsMadeText n (Absent trace log) written = ⊥
-IsMadeText n (Turns trace) written = written ≡ certificate_text (certificate (made n) (Turns trace))
+IsMadeText n (Turns trace) written = written ≡ certificate_text (certificate (made_problem_of n) (Turns trace))
 IsMadeText n (Conflicts trace asked log) written =
-    written ≡ certificate_text (certificate (made n) (Conflicts trace asked log))
+    written ≡ certificate_text (certificate (made_problem_of n) (Conflicts trace asked log))
 
 -- what `make` writes for a number, by the status after it
 pub record IsMakeDue (n : ℕ) (status : Status) (written : List ℕ) : Type 0 where
   pub outcome : Outcome
-  pub synthesis : HasEnded (made n) status outcome
+  pub synthesis : HasEnded (made_problem_of n) status outcome
   pub wrote : IsMadeText n outcome written

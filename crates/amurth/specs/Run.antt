@@ -53,16 +53,16 @@ abbrev pub IsDueSomehow : Command → Option (List ℕ) → List ℕ → Type 0
 IsDueSomehow command left written = (status : Status) × IsDueTo command left status written
 
 -- a whole text was written, which tells how the work ended
-abbrev pub IsTold : Status → Type 0
-IsTold Done = Unit {0}
-IsTold Refused = Unit {0}
-IsTold SpentTurns = Unit {0}
-IsTold SpentConflicts = Unit {0}
-IsTold Rejected = Unit {0}
-IsTold Usage = ⊥
-IsTold ReadFault = ⊥
-IsTold WriteFault = ⊥
-IsTold NoMemory = ⊥
+abbrev pub IsToldStatus : Status → Type 0
+IsToldStatus Done = Unit {0}
+IsToldStatus Refused = Unit {0}
+IsToldStatus SpentTurns = Unit {0}
+IsToldStatus SpentConflicts = Unit {0}
+IsToldStatus Rejected = Unit {0}
+IsToldStatus Usage = ⊥
+IsToldStatus ReadFault = ⊥
+IsToldStatus WriteFault = ⊥
+IsToldStatus NoMemory = ⊥
 
 -- nothing was written
 abbrev pub IsSilent : Status → Type 0

@@ -6,7 +6,7 @@ use Rattle.am_cert.specs.declared.answer.Proofs.TheVariants.{Chains}
 use Rattle.am_cert.specs.declared.version.Version.TheVariants.{Two}
 use Rattle.am_dual.specs.Synthesis.{AreConflictsSpent, AreTurnsSpent, IsSynthesis, most_inputs}
 use Rattle.am_problem.specs.Problem.{Problem}
-use Rattle.am_problem.specs.Texts.{Reads, problem_of}
+use Rattle.am_problem.specs.Texts.{ReadsAsProblem, problem_of}
 use Rattle.am_query.specs.declared.outcome.Outcome.{Outcome}
 use Rattle.am_query.specs.declared.outcome.Outcome.TheVariants.{Absent, Best, Conflicts, Turns}
 use Rattle.am_tree.specs.Counts.{tuple_count}
@@ -41,8 +41,8 @@ pub record IsCertified (p : Problem) (status : Status) (written : List ℕ) : Ty
 
 -- the input is the text of a problem, and what is written is the certificate of its synthesis
 abbrev pub IsSynthesised : Status → List ℕ → List ℕ → Type 0
-IsSynthesised = IsAnsweredBy Reads IsCertified
+IsSynthesised = IsAnsweredBy ReadsAsProblem IsCertified
 
 -- what `synth` writes for an input, by the status after it
 abbrev pub IsSynthDue : Status → List ℕ → List ℕ → Type 0
-IsSynthDue = IsAnswer Reads problem_of IsCertified
+IsSynthDue = IsAnswer ReadsAsProblem problem_of IsCertified

@@ -2,7 +2,7 @@
 use Rattle.std.specs.Prelude.{◌≡◌, ℕ, ◌⊎◌, List}
 use Rattle.am_cert.specs.Certificate.{Certificate}
 use Rattle.am_cert.specs.Printing.{certificate_text}
-use Rattle.am_cert.specs.Texts.{Reads, certificate_of}
+use Rattle.am_cert.specs.Texts.{ReadsAsCertificate, certificate_of}
 use Rattle.am_cert.specs.Translating.{IsTranslation}
 use Rattle.amurth.specs.Answers.{IsAnswer}
 use Rattle.amurth.specs.Checked.{IsFaulty, IsProved}
@@ -15,7 +15,7 @@ pub record IsHintedText (c : Certificate) (written : List ℕ) : Type 0 where
   pub hinted : Certificate
   pub same : IsTranslation c hinted
   pub wrote : written ≡ certificate_text hinted
-  pub reads : Reads written hinted
+  pub reads : ReadsAsCertificate written hinted
 
 -- the certificate is accepted and right, and it is written with hints
 pub record IsRestated (c : Certificate) (status : Status) (written : List ℕ) : Type 0 where
@@ -29,4 +29,4 @@ IsTranslated c status written = IsRestated c status written ⊎ IsFaulty c statu
 
 -- what `translate` writes for an input, by the status after it
 abbrev pub IsTranslateDue : Status → List ℕ → List ℕ → Type 0
-IsTranslateDue = IsAnswer Reads certificate_of IsTranslated
+IsTranslateDue = IsAnswer ReadsAsCertificate certificate_of IsTranslated

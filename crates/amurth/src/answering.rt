@@ -4,7 +4,7 @@ ghost use Rattle.std.specs.Prelude.{◌≡◌, ◌≢◌, ℕ, ◌+◌, ◌-◌,
 ghost use Rattle.am_cert.specs.declared.limits.TheConstants.{MOST_BYTES};
 ghost use Rattle.am_io.specs.Streams.{LosesAtMost};
 ghost use Rattle.am_syntax.specs.declared.refusal.Refusal.TheVariants.{Long};
-ghost use Rattle.amurth.specs.Command.{IsNumbered};
+ghost use Rattle.amurth.specs.Command.{IsNumberedCommand};
 ghost use Rattle.amurth.specs.Lines.{refusal_line};
 ghost use Rattle.amurth.specs.Run.{HasRead, IsDueTo};
 ghost use Rattle.amurth.specs.declared.command.Command.TheVariants.{Make};
@@ -35,7 +35,7 @@ pub fn answer<R: Source>(
     input: &mut R,
 ) -> Result<Response, ReadEnd>
     requires source { R.faults input.old < 2 ^ 64 - 1 }
-    requires numbered { IsNumbered command }
+    requires numbered { IsNumberedCommand command }
 
     // A response comes after an input that was read to its end, and is due to it.
     ensures due { IfOk result (λ r. IsDueTo command (R.left input.old) r.status r.text.items) }

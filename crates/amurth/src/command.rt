@@ -7,7 +7,7 @@ ghost use Rattle.amurth.specs.Command.{IsCommand};
 ghost use Rattle.amurth.specs.declared.command.Command.{Command as Named};
 
 use am_problem::LAST_PROBLEM;
-use am_syntax::{Judge, Number};
+use am_syntax::{End, Judge, Number};
 use std::alloc::{AllocError, Global};
 use std::marker::Model;
 
@@ -132,7 +132,7 @@ fn problem_number(digits: &[u8]) -> Option<u32>
 {
     let numbers = Number {
         least: 0,
-        most: u64::from(LAST_PROBLEM),
+        end: End::With(u64::from(LAST_PROBLEM)),
     };
     match numbers.judge(digits) {
         Ok(number) => Some(number as u32),

@@ -7,7 +7,7 @@ ghost use Rattle.am_cert.specs.declared.limits.TheConstants.{MOST_BYTES};
 ghost use Rattle.am_flow.specs.Flows.{IsFlow};
 ghost use Rattle.am_syntax.specs.Pieces.{next_is, repeat_from};
 ghost use Rattle.am_syntax.specs.Texts.{Answers};
-ghost use Rattle.amurth.specs.Analysed.{all_settled, analysis_of, certificate_behind, drafts, drafts_of};
+ghost use Rattle.amurth.specs.Analysed.{all_settled, analysis_of, certificate_after, drafts, drafts_of};
 ghost use Rattle.amurth.specs.inside.Analyses.{ReadsAt, seen_analysis, seen_drafts};
 
 use crate::limits::MOST_CERTIFICATES;
@@ -48,6 +48,7 @@ pub fn read_analysis(alloc: Global, text: &[u8]) -> Result<Analysis, ReadError>
 }
 
 /// Reads all of a text, before names are looked up.
+#[tactic(auto, unfolding(am_syntax::specs::Texts::read_whole))]
 fn read_text<'a>(alloc: Global, text: &'a [u8]) -> Result<Drafts<'a>, ReadError>
     requires { length text.now ≤ MOST_BYTES }
     ensures value { Answers seen_drafts result (drafts_of text.now) }
@@ -78,25 +79,25 @@ fn read_certificates<'a>(
 ) -> Result<Vec<CertificateDraft<'a>>, ReadError>
     requires { IsShort text.old }
     ensures value { ReadsAt (λ ds. map seen_draft ds.items) result text.new
-        (repeat_from (next_is (codes "certificate")) certificate_behind [] text.old) }
+        (repeat_from (next_is (codes "certificate")) certificate_after [] text.old) }
     ensures few { IfOk result (λ ds. length ds.items ≤ MOST_CERTIFICATES) }
 {
     let mut drafts = Vec::new(alloc);
     'drafts: while is_next(text, b"certificate") {
-        let draft = certificate_behind(alloc, text, drafts.as_slice())?;
+        let draft = certificate_after(alloc, text, drafts.as_slice())?;
         put(&mut drafts, draft)?;
     }
     Ok(drafts)
 }
 
 /// A certificate after others, of which there may be one more.
-fn certificate_behind<'a>(
+fn certificate_after<'a>(
     alloc: Global,
     text: &mut Cursor<'a>,
     seen: &[CertificateDraft<'a>],
 ) -> Result<CertificateDraft<'a>, ReadError>
     requires { IsShort text.old }
-    ensures value { ReadsAt seen_draft result text.new (certificate_behind (map seen_draft seen.now) text.old) }
+    ensures value { ReadsAt seen_draft result text.new (certificate_after (map seen_draft seen.now) text.old) }
     ensures room { OnOk result (length seen.now < MOST_CERTIFICATES) }
 {
     if seen.len() < MOST_CERTIFICATES {

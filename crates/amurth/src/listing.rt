@@ -2,7 +2,7 @@
 
 ghost use Rattle.std.specs.Prelude.{◌≡◌, ◌≤◌, ◌++◌, All, IfOk, List, OnOk, length, map};
 ghost use Rattle.am_all.specs.AllBest.{AreAllBest};
-ghost use Rattle.am_all.specs.Sizes.{IsSmall};
+ghost use Rattle.am_all.specs.Sizes.{IsSmallProblem};
 ghost use Rattle.am_cert.specs.declared.limits.TheConstants.{MOST_BYTES};
 ghost use Rattle.am_syntax.specs.Canonical.{line, lines};
 ghost use Rattle.am_syntax.specs.Spelling.{FitsSomewhere};
@@ -47,7 +47,7 @@ fn best_listed(alloc: Global, problem: &Problem) -> Result<Response, AllocError>
 
 /// All tuples of trees of a small problem whose terms are best.
 fn list_text(alloc: Global, problem: &Problem) -> Result<Vec<u8>, AllocError>
-    requires { IsSmall problem.now }
+    requires { IsSmallProblem problem.now }
     ensures { IfOk result (λ text. (tuples : List (List Tree)) × AreAllBest problem.now tuples
         × (text.items ≡ list_text problem.now tuples)) }
 {

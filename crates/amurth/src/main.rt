@@ -25,8 +25,6 @@ mod response;
 mod running;
 mod status;
 mod synthesising;
-#[cfg(test)]
-mod tests;
 mod translating;
 
 use am_io::{StdSink, StdSource};

@@ -3,7 +3,7 @@
 ghost use Rattle.std.specs.Prelude.{◌≡◌, ◌≤◌, ◌<◌, ◌^◌, ◌++◌, All, IfOk, IsTrue, OnOk, map};
 ghost use Rattle.am_cert.specs.Printing.{term_row};
 ghost use Rattle.am_dual.specs.Synthesis.{IsSynthesis};
-ghost use Rattle.am_problem.specs.Generator.{made};
+ghost use Rattle.am_problem.specs.Generator.{made_problem_of};
 ghost use Rattle.am_problem.specs.declared.generator.TheConstants.{LAST_PROBLEM};
 ghost use Rattle.am_syntax.specs.Canonical.{line, lines};
 ghost use Rattle.am_syntax.specs.Lines.{is_apart};
@@ -40,7 +40,7 @@ fn text_of(
     problem: Problem,
     outcome: Outcome,
 ) -> Result<Vec<u8>, AllocError>
-    requires made { problem ≡ made number }
+    requires made { problem ≡ made_problem_of number }
     requires synthesis { IsSynthesis problem outcome }
     ensures { IfOk result (λ text. IsMadeText number outcome text.items) }
 {
@@ -58,7 +58,7 @@ fn summary(
     problem: &Problem,
     terms: &[Term],
 ) -> Result<Vec<u8>, AllocError>
-    requires made { problem.now ≡ made number }
+    requires made { problem.now ≡ made_problem_of number }
     requires terms { All FitsSomewhere terms.now }
     ensures { IfOk result (λ text. text.items ≡ summary number terms.now) }
 {

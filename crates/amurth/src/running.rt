@@ -5,7 +5,7 @@ ghost use Rattle.std.specs.Io.KnownBytes.{Appends};
 ghost use Rattle.am_cert.specs.declared.limits.TheConstants.{MOST_BYTES};
 ghost use Rattle.am_io.specs.Streams.{AppendsPrefix, LosesAtMost};
 ghost use Rattle.amurth.specs.Command.{IsCommand};
-ghost use Rattle.amurth.specs.Run.{Calls, HasRead, IsDueSomehow, IsDueTo, IsSilent, IsTold};
+ghost use Rattle.amurth.specs.Run.{Calls, HasRead, IsDueSomehow, IsDueTo, IsSilent, IsToldStatus};
 ghost use Rattle.amurth.specs.declared.command.Command.{Command as Named};
 ghost use Rattle.amurth.specs.declared.command.Command.TheVariants.{Make};
 
@@ -31,7 +31,7 @@ pub fn run<R: Source, W: Sink>(
 
     // What was written is due to the input, and tells how the work ended. Each byte took one call of the sink at most,
     // and one more finished it or failed.
-    ensures due { IsTold result → Calls words.now (λ c. (text : List ℕ)
+    ensures due { IsToldStatus result → Calls words.now (λ c. (text : List ℕ)
         × IsDueTo c (R.left input.old) result text
         × Appends (W.taken output.old) (W.taken output.new) text
         × (W.calls output.new ≤ W.calls output.old + length text + 1)) }
@@ -44,7 +44,7 @@ pub fn run<R: Source, W: Sink>(
     ensures silent { IsSilent result → output.new ≡ output.old }
 
     // After a whole text the sink was finished, and it is finished once at most.
-    ensures finished { IsTold result → W.finished output.new }
+    ensures finished { IsToldStatus result → W.finished output.new }
     ensures once { W.finishes output.new ≤ W.finishes output.old + 1 }
 
     // Where the work is done, the input was read to its end. A made problem has no input.
@@ -80,7 +80,7 @@ pub fn run<R: Source, W: Sink>(
 /// Writes a whole text, and answers the status that it has once it is written.
 fn deliver<W: Sink>(output: &mut W, text: &[u8], status: Status) -> Status
     requires sink { W.faults output.old < 2 ^ 64 - 1 }
-    requires told { IsTold status }
+    requires told { IsToldStatus status }
     ensures status { result ≢ Status.WriteFault → result ≡ status }
     ensures whole { result ≢ Status.WriteFault →
         Appends (W.taken output.old) (W.taken output.new) text.now }

@@ -18,10 +18,7 @@ _MARKED = re.compile(r"^<!-- run: (?P<name>\S+) -->\n\n(?P<code>(?:    .*\n)+)",
 
 @dataclass(frozen=True)
 class Script:
-    """The shell runs these lines on an input.
-
-    The program is named `amurth` on the path, and the folder `examples` is at hand.
-    """
+    """The shell runs these lines on an input, with `amurth` on the path and the folder `examples` at hand."""
 
     lines: str
     text: bytes

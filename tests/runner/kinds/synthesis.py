@@ -1,4 +1,4 @@
-"""A synthesis whose answer is one of several: the terms are among the best, and `check` accepts the certificate."""
+"""A synthesis with one of several answers: its terms are among the best ones, and `check` accepts the certificate."""
 
 from __future__ import annotations
 

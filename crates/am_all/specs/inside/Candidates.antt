@@ -13,10 +13,10 @@ abbrev pub values_at : ℕ → List Case → Term → List ℕ
 values_at w cases t = map (λ case. val w t case.fields) cases
 
 -- the values of the tree's term are those at the cases
-abbrev pub IsCandidate : Problem → List Case → ℕ → Candidate → Type 0
-IsCandidate p cases start c = c.values ≡ values_at p.width cases (term_of p.rules start c.tree)
+abbrev pub HasCaseValues : Problem → List Case → ℕ → Candidate → Type 0
+HasCaseValues p cases start c = c.values ≡ values_at p.width cases (term_of p.rules start c.tree)
 
 -- the trees of a start, in order, with their values
 pub record AreCandidates (p : Problem) (cases : List Case) (start : ℕ) (candidates : List Candidate) : Type 0 where
   pub trees : map (λ c. c.tree) candidates ≡ trees_of p.rules p.depth start
-  pub values : All (IsCandidate p cases start) candidates
+  pub values : All (HasCaseValues p cases start) candidates

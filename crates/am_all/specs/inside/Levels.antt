@@ -5,9 +5,9 @@ use Rattle.am_tree.specs.declared.tree.Tree.{Tree}
 use Rattle.am_tree.specs.Listed.{trees_of}
 
 -- where a nonterminal's entry is false, a function lists no tree for it
-abbrev pub IsTold : (ℕ → List Tree) → List Bool → Type 0
-IsTold f level = (n : ℕ) → slice_index_or level n true ≡ false → f n ≡ []
+abbrev pub IsToldLevel : (ℕ → List Tree) → List Bool → Type 0
+IsToldLevel f level = (n : ℕ) → slice_index_or level n true ≡ false → f n ≡ []
 
 -- each level tells of the trees with the depth that is its place
 abbrev pub AreLevels : Rules → List (List Bool) → Type 0
-AreLevels rules levels = (d : ℕ) → d < length levels → IsTold (trees_of rules d) (slice_index_or levels d [])
+AreLevels rules levels = (d : ℕ) → d < length levels → IsToldLevel (trees_of rules d) (slice_index_or levels d [])

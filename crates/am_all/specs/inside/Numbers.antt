@@ -7,6 +7,6 @@ words_at w zero n = []
 words_at w (suc count) n = (n % 2 ^ w) ∷ words_at w count (n / 2 ^ w)
 
 -- the number of a tuple of words
-abbrev pub number_of : ℕ → List ℕ → ℕ
-number_of w [] = 0
-number_of w (c ∷ words) = number_of w words * 2 ^ w + c
+abbrev pub tuple_number : ℕ → List ℕ → ℕ
+tuple_number w [] = 0
+tuple_number w (c ∷ words) = tuple_number w words * 2 ^ w + c

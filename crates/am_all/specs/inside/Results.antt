@@ -3,13 +3,13 @@ use Rattle.std.specs.Prelude.{◌≡◌, ℕ, ◌<◌, List, [], length, map, sl
 use Rattle.am_all.specs.declared.candidates.Candidate.{Candidate}
 use Rattle.am_all.specs.declared.cases.Case.{Case}
 use Rattle.am_all.specs.declared.word_set.WordSet.{WordSet}
-use Rattle.am_all.specs.inside.Numbers.{number_of}
+use Rattle.am_all.specs.inside.Numbers.{tuple_number}
 use Rattle.am_all.specs.inside.Sets.{Has}
 
 -- the numbers of the values at each of so many places
-pub record AreNumbers (w : ℕ) (tuple : List Candidate) (count : ℕ) (numbers : List ℕ) : Type 0 where
+pub record AreResultNumbers (w : ℕ) (tuple : List Candidate) (count : ℕ) (numbers : List ℕ) : Type 0 where
   pub counted : length numbers ≡ count
-  pub each : (i : ℕ) → i < count → slice_index numbers i ≡ number_of w (map (λ c. slice_index c.values i) tuple)
+  pub each : (i : ℕ) → i < count → slice_index numbers i ≡ tuple_number w (map (λ c. slice_index c.values i) tuple)
 
 -- the set of a number
 abbrev pub set_at : List WordSet → ℕ → WordSet
@@ -38,8 +38,8 @@ IsMissing cases sets numbers =
     ((d : Case) → IsMore (slice_index_or cases i d).images (set_at sets (slice_index numbers i)))
 
 -- the sets of the one's results are subsets of the other's, at each case
-abbrev pub IsInside : List WordSet → List ℕ → List ℕ → Type 0
-IsInside sets inner outer =
+abbrev pub IsResultInside : List WordSet → List ℕ → List ℕ → Type 0
+IsResultInside sets inner outer =
     (i : ℕ) → i < length inner → IsSubset (set_at sets (slice_index inner i)) (set_at sets (slice_index outer i))
 
 -- at some case one isn't

@@ -20,7 +20,7 @@ use Rattle.am_bits.specs.lemmas.Bits.{kept_or_fewer}
 use Rattle.am_domain.proofs.Laws.{pair-IsTuple, by_two, by_three}
 use Rattle.am_bv.proofs.Laws.{val-binary}
 use Rattle.am_bits.specs.lemmas.Terms.{equality-tells, equalities-tell, iff-trans}
-use Rattle.am_bits.specs.KnownBits.{all_known_bits, known_bits, zeros, ones, IsKnown, HasKnown, known_valid_term}
+use Rattle.am_bits.specs.KnownBits.{all_known_bits, known_bits, known_zeros, ones, IsKnown, HasKnown, known_valid_term}
 use Rattle.am_bits.specs.KnownBits.{known_member_term}
 
 -- two words without a common bit are a value
@@ -28,10 +28,11 @@ value : (w z o : ℕ) → z < 2 ^ w → o < 2 ^ w → IsKnown (z ∷ o ∷ []) �
 value w z o h k known = record { tuple = pair-IsTuple w z o h k; valid = known }
 
 -- the two tests of membership
-pub known_by_tests : (a : List ℕ) (c : ℕ) → ((bit_and c (zeros a) ≡ 0) × (bit_and c (ones a) ≡ ones a)) ↔ HasKnown a c
+pub known_by_tests : (a : List ℕ) (c : ℕ) → ((bit_and c (known_zeros a) ≡ 0) × (bit_and c (ones a) ≡ ones a)) ↔ HasKnown
+    a c
 known_by_tests a c = (
-  λ h. record { clear = (clear_bits c (zeros a)).0 h.0; set = (set_bits c (ones a)).0 h.1 },
-  λ h. ((clear_bits c (zeros a)).1 h.clear, (set_bits c (ones a)).1 h.set),
+  λ h. record { clear = (clear_bits c (known_zeros a)).0 h.0; set = (set_bits c (ones a)).0 h.1 },
+  λ h. ((clear_bits c (known_zeros a)).1 h.clear, (set_bits c (ones a)).1 h.set),
 )
 
 has_members : HasMembers all_known_bits
@@ -69,13 +70,14 @@ holds_words w width c below = (
 
 joins_above : JoinsAbove all_known_bits
 joins_above w width a b first second =
-    let z : (i : ℕ) → bit_at (bit_and (zeros a) (zeros b)) i ≡ 1 → (bit_at (zeros a) i ≡ 1) × (bit_at (zeros b) i ≡ 1) =
-    λ i. in_both (zeros a) (zeros b) i in
+    let z : (i : ℕ) → bit_at (bit_and (known_zeros a) (known_zeros b)) i ≡ 1 → (bit_at (known_zeros a) i ≡ 1) ×
+    (bit_at (known_zeros b) i ≡ 1) =
+    λ i. in_both (known_zeros a) (known_zeros b) i in
     let o : (i : ℕ) → bit_at (bit_and (ones a) (ones b)) i ≡ 1 → (bit_at (ones a) i ≡ 1) × (bit_at (ones b) i ≡ 1) =
     λ i. in_both (ones a) (ones b) i in
     record {
       value =
-          value w _ _ (omega (arith, and_le_l (zeros a) (zeros b), first.tuple.words 0))
+          value w _ _ (omega (arith, and_le_l (known_zeros a) (known_zeros b), first.tuple.words 0))
           (omega (arith, and_le_l (ones a) (ones b), first.tuple.words 1))
           (λ i both. first.valid i ((z i both.0).0, (o i both.1).0));
       first = λ c below h. record { clear = λ i k. h.clear i (z i k).0; set = λ i k. h.set i (o i k).0 };
@@ -90,18 +92,18 @@ descends : Descends all_known_bits
 descends = record {
   most = λ w width a abstract. omega (
     arith,
-    ones-le w (zeros a) (abstract.tuple.words 0),
+    ones-le w (known_zeros a) (abstract.tuple.words 0),
     ones-le w (ones a) (abstract.tuple.words 1),
     below_power w,
   );
   falls = λ w width a b first second changed.
-      let same : a ≡ zeros a ∷ ones a ∷ [] =
-      by_two (λ a. a ≡ zeros a ∷ ones a ∷ []) (λ x y. refl) a first.tuple.counted in
-      elim (kept_or_fewer w (zeros a) (zeros b) (first.tuple.words 0)) [
+      let same : a ≡ known_zeros a ∷ ones a ∷ [] =
+      by_two (λ a. a ≡ known_zeros a ∷ ones a ∷ []) (λ x y. refl) a first.tuple.counted in
+      elim (kept_or_fewer w (known_zeros a) (known_zeros b) (first.tuple.words 0)) [
         | inl z ↦ elim (kept_or_fewer w (ones a) (ones b) (first.tuple.words 1)) [
           | inl o ↦
               absurd
-              (changed (ap (λ x. x ∷ bit_and (ones a) (ones b) ∷ []) z ∙ ap (λ y. zeros a ∷ y ∷ []) o ∙ sym same))
+              (changed (ap (λ x. x ∷ bit_and (ones a) (ones b) ∷ []) z ∙ ap (λ y. known_zeros a ∷ y ∷ []) o ∙ sym same))
           | inr fewer ↦ omega (arith, ap count_ones z)
         ]
         | inr fewer ↦ elim (kept_or_fewer w (ones a) (ones b) (first.tuple.words 1)) [
@@ -112,17 +114,17 @@ descends = record {
 }
 
 -- what is left of a tuple, by whether its words have no common bit
-tidied : (w : ℕ) (raw : List ℕ) → IsTuple w 2 raw → (t : Bool) → (bit_and (zeros raw) (ones raw) == 0) ≡ t →
+tidied : (w : ℕ) (raw : List ℕ) → IsTuple w 2 raw → (t : Bool) → (bit_and (known_zeros raw) (ones raw) == 0) ≡ t →
     MatchOption (cond t (Some raw) None) ((c : ℕ) → c < 2 ^ w → ¬ HasKnown raw c)
     (λ a. IsAbstract known_bits w a × ((c : ℕ) → c < 2 ^ w → HasKnown raw c → HasKnown a c))
 tidied w raw tuple true e =
-    (record { tuple = tuple; valid = (disjoint_bits (zeros raw) (ones raw)).0 (eqb-true _ _ e) }, λ c below h. h)
+    (record { tuple = tuple; valid = (disjoint_bits (known_zeros raw) (ones raw)).0 (eqb-true _ _ e) }, λ c below h. h)
 tidied w raw tuple false e = λ c below h.
     eqb-false _ _ e
-    ((disjoint_bits (zeros raw) (ones raw)).1 (λ i both. omega (arith, h.clear i both.0, h.set i both.1)))
+    ((disjoint_bits (known_zeros raw) (ones raw)).1 (λ i both. omega (arith, h.clear i both.0, h.set i both.1)))
 
 tidies : Tidies all_known_bits
-tidies w width raw tuple = tidied w raw tuple (bit_and (zeros raw) (ones raw) == 0) refl
+tidies w width raw tuple = tidied w raw tuple (bit_and (known_zeros raw) (ones raw) == 0) refl
 
 tells_validity : TellsValidity all_known_bits
 tells_validity w width =

@@ -5,7 +5,7 @@ use Rattle.am_chain.specs.declared.chain.Chain.{Chain}
 use Rattle.am_problem.specs.Problem.{Problem}
 use Rattle.am_query.specs.Acceptance.{Test, acceptance_by, hints_refute, refuted}
 use Rattle.am_lit.specs.declared.formula.Formula.{Formula}
-use Rattle.am_query.specs.Formulas.{circuit_of}
+use Rattle.am_query.specs.Formulas.{query_circuit}
 use Rattle.am_query.specs.Queries.{AreStored}
 use Rattle.am_query.specs.Turns.{after_trace}
 use Rattle.am_query.specs.declared.outcome.Outcome.{Outcome}
@@ -43,8 +43,8 @@ acceptance_but c o first second =
 
 -- the formula of a query in the form that the certificate's version says, which has few clauses and variables
 pub record IsFormulaOf (c : Certificate) (q : Query) (f : Formula) : Type 0 where
-  pub clauses : f.clauses ≡ (circuit_of (folds c.version) c.problem q).clauses
-  pub vars : f.vars ≡ (circuit_of (folds c.version) c.problem q).vars
+  pub clauses : f.clauses ≡ (query_circuit (folds c.version) c.problem q).clauses
+  pub vars : f.vars ≡ (query_circuit (folds c.version) c.problem q).vars
   pub few : length f.clauses < 2 ^ 31
   pub few_vars : f.vars < 2 ^ 30
 

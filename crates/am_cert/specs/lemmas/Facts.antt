@@ -11,8 +11,8 @@ use Rattle.am_query.specs.declared.turn.Turn.TheVariants.{Negative, Positive}
 use Rattle.am_syntax.specs.Pieces.{Piece, below, good_from, key_or, keyed, number}
 use Rattle.am_syntax.specs.Readers.{Word}
 use Rattle.am_cert.specs.Certificate.{AreBounded, AreHints, AreHintsOf, AreProofsOf, IsHint}
-use Rattle.am_cert.specs.Grammar.{Shape, asked, best, chain, counterexample, example, log, negative_count, none}
-use Rattle.am_cert.specs.Grammar.{outcome, place_behind, places, result_term, shape_of, spent_conflicts, spent_turns}
+use Rattle.am_cert.specs.Grammar.{ProblemShape, asked, best, chain, counterexample, example, log, negative_count, none}
+use Rattle.am_cert.specs.Grammar.{outcome, place_after, places, result_term, shape_of, spent_conflicts, spent_turns}
 use Rattle.am_cert.specs.Grammar.{step, terms, turn, turns, word, words}
 use Rattle.am_cert.specs.declared.answer.Answer.{Answer}
 use Rattle.am_cert.specs.declared.answer.Proofs.{Proofs}
@@ -29,7 +29,7 @@ from-prop : {X : Type 0} (item : List X → Piece X) → ((seen : List X) → Is
 from-prop item each seen [] = hlevel
 from-prop item each seen (x ∷ xs) = hlevel (each seen x, from-prop item each (seen ++ x ∷ []) xs)
 
-module _ (s : Shape) where
+module _ (s : ProblemShape) where
   term-prop : IsSettled (result_term s)
   term-prop t = hlevel (coded, le_prop)
 
@@ -49,8 +49,8 @@ module _ (s : Shape) where
 
   places-prop : (count : ℕ) → IsSettled (places count)
   places-prop count ns =
-      from-prop (λ seen. below (place_behind seen) (min count (2 ^ 32)))
-      (λ seen. place-prop (place_behind seen) (min count (2 ^ 32))) [] ns
+      from-prop (λ seen. below (place_after seen) (min count (2 ^ 32)))
+      (λ seen. place-prop (place_after seen) (min count (2 ^ 32))) [] ns
 
   example-prop : (count : ℕ) → IsSettled (example s count)
   example-prop count x =
@@ -93,7 +93,7 @@ log-prop : (name : Word) → IsSettled (log name)
 unfolding log
 log-prop name log = from-prop (λ _. chain) (λ _. chain-prop) [] log
 
-outcome-prop : (s : Shape) → IsSettled (outcome s)
+outcome-prop : (s : ProblemShape) → IsSettled (outcome s)
 unfolding outcome best none spent_turns spent_conflicts
 outcome-prop s (Best t trace sound_log best_log) =
     hlevel (

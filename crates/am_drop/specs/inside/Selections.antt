@@ -3,7 +3,7 @@ use Rattle.std.specs.Prelude.{ℕ, ◌+◌, ◌^◌, ◌≤◌, List, Option, No
 use Rattle.am_chain.specs.declared.chain.Chain.{Chain}
 use Rattle.am_query.specs.Answers.{IsSpentOn}
 use Rattle.am_query.specs.Queries.{AreFitted, AreStored, input_count}
-use Rattle.am_query.specs.Transformers.{IsTransformerOf, Suits}
+use Rattle.am_query.specs.Transformers.{IsTransformerOf, SuitsExamples}
 use Rattle.am_query.specs.Turns.{AreAskedPlaces, AreKeptBefore, at_places}
 use Rattle.am_query.specs.declared.query.Query.TheVariants.{Fit}
 use Rattle.am_drop.specs.declared.keeper.Keeper.{Keeper}
@@ -24,7 +24,7 @@ HasEnough k = 3 ^ input_count k.problem.now (Fit k.pos.now k.neg.now) ≤ k.limi
 pub record IsSelection (k : Keeper) (n : ℕ) (s : Selection) : Type 0 where
   pub kept : AreKeptBefore k.problem.now k.pos.now k.neg.now n s.places
   pub derivable : IsTransformerOf k.problem.now s.term
-  pub suits : Suits k.problem.now s.term k.pos.now (at_places k.neg.now s.places)
+  pub suits : SuitsExamples k.problem.now s.term k.pos.now (at_places k.neg.now s.places)
   pub stored : AreStored k.problem.now (length k.pos.now + n) k.pos.now (at_places k.neg.now s.places)
 
 -- what was decided on the example at place n: it is in the selection now, or isn't; or the query reached the limit

@@ -49,19 +49,19 @@ abbrev pub GoesOn : List Turn → List Turn → Type 0
 GoesOn before after = (more : List Turn) × (after ≡ before ++ more)
 
 -- there may be another turn, or this is the end
-abbrev pub IsRight : Problem → Next → Type 0
-IsRight p (NextTurn s) = IsUnderway p p.turns s
-IsRight p (End o) = IsEnd p o
+abbrev pub IsRightNext : Problem → Next → Type 0
+IsRightNext p (NextTurn s) = IsUnderway p p.turns s
+IsRightNext p (End o) = IsEnd p o
 
 -- a synthesis that has made no turn
 pub record IsBegun (p : Problem) (next : Next) : Type 0 where
-  pub right : IsRight p next
+  pub right : IsRightNext p next
   pub none : trace_so_far next ≡ []
 
 -- After these turns there is one more, and there may be another; or this is the end, with these turns or one more.
-abbrev pub IsNext : Problem → List Turn → Next → Type 0
-IsNext p trace (NextTurn s) = IsUnderway p p.turns s × ((t : Turn) × (s.trace ≡ trace ++ t ∷ []))
-IsNext p trace (End o) = IsEnd p o × ((trace_of o ≡ trace) ⊎ ((t : Turn) × (trace_of o ≡ trace ++ t ∷ [])))
+abbrev pub IsNextTurn : Problem → List Turn → Next → Type 0
+IsNextTurn p trace (NextTurn s) = IsUnderway p p.turns s × ((t : Turn) × (s.trace ≡ trace ++ t ∷ []))
+IsNextTurn p trace (End o) = IsEnd p o × ((trace_of o ≡ trace) ⊎ ((t : Turn) × (trace_of o ≡ trace ++ t ∷ [])))
 
 -- how many turns there may still be, with the one that shows that they are spent
 abbrev pub turns_left : Problem → Next → ℕ

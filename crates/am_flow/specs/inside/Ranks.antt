@@ -2,10 +2,10 @@
 use Rattle.std.specs.Prelude.{◌≡◌, ℕ, ◌+◌, ◌*◌, ◌^◌, ◌≤◌, List, None, Some, sum_by}
 use Rattle.am_problem.specs.Kinds.{abstraction_of, fields_of}
 use Rattle.am_flow.specs.Flows.{Flow, Operation}
-use Rattle.am_flow.specs.States.{Entry, Row, State, state_after}
+use Rattle.am_flow.specs.States.{Entry, FlowRow, State, state_after}
 
 -- the ranks of a row's values together
-abbrev pub row_rank : Flow → Row → ℕ
+abbrev pub row_rank : Flow → FlowRow → ℕ
 row_rank f row = sum_by ((abstraction_of f.kind).rank f.width) row
 
 -- the most that the ranks of a row are together
@@ -26,7 +26,7 @@ abbrev pub most_rounds : Flow → ℕ
 most_rounds f = f.nodes * (most_rank f + 1)
 
 -- a state that so many rounds lead to, each of which lowered the rank
-pub record IsReached (f : Flow) (operations : List Operation) (state : State) : Type 0 where
+pub record IsReachedState (f : Flow) (operations : List Operation) (state : State) : Type 0 where
   pub rounds : ℕ
   pub reached : state ≡ state_after f operations rounds
   pub few : rounds + state_rank f state ≤ most_rounds f

@@ -3,7 +3,7 @@ use Rattle.std.specs.Prelude.{◌≡◌, ◌≢◌, ℕ, ◌<◌, All, List, Som
 use Rattle.am_problem.specs.Examples.{IsTransformer}
 use Rattle.am_problem.specs.Limits.{IsProblem}
 use Rattle.am_flow.specs.Flows.{AppliesTo, Flow, IsAction, Operation}
-use Rattle.am_flow.specs.States.{State, edge_step, entry_at, joined}
+use Rattle.am_flow.specs.States.{State, edge_step, entry_at, joined_entries}
 use Rattle.am_flow.specs.declared.flow.Action.{Action}
 use Rattle.am_flow.specs.declared.flow.Edge.{Edge}
 
@@ -22,7 +22,7 @@ pub record CanAct (f : Flow) (operations : List Operation) (action : Action) : T
   pub applies : (i : ℕ) (o : Operation) → slice_get operations i ≡ Some o → AppliesTo i o.problem.inputs action
 
 -- an edge between nodes of the flow, with such an action
-pub record CanFollow (f : Flow) (operations : List Operation) (e : Edge) : Type 0 where
+pub record CanFollowEdge (f : Flow) (operations : List Operation) (e : Edge) : Type 0 where
   pub from : e.from < f.nodes
   pub to : e.to < f.nodes
   pub acts : CanAct f operations e.action
@@ -32,5 +32,5 @@ pub record CanFollow (f : Flow) (operations : List Operation) (e : Edge) : Type 
 pub record JoinsStep (f : Flow) (operations : List Operation) (before : State) (e : Edge) (old new : State) :
     Type 0 where
   pub counted : length new ≡ length old
-  pub there : entry_at new e.to ≡ joined f (entry_at old e.to) (edge_step f operations before e)
+  pub there : entry_at new e.to ≡ joined_entries f (entry_at old e.to) (edge_step f operations before e)
   pub others : (n : ℕ) → n ≢ e.to → entry_at new n ≡ entry_at old n

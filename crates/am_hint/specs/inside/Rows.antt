@@ -2,7 +2,7 @@
 use Rattle.std.specs.Prelude.{ℕ, Bool, List, false, slice_index_or}
 
 -- literals that are true, over the variables below a number, in the order in which they became true
-pub record Row : Type 0 where
+pub record TrueRow : Type 0 where
   pub vars : ℕ
   pub literals : List ℕ
 

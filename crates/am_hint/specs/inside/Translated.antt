@@ -7,7 +7,7 @@ use Rattle.am_chain.specs.Replay.{EndsEmpty}
 use Rattle.am_hint.specs.declared.hint.Hint.{Hint}
 use Rattle.am_hint.specs.declared.status.Status.{Status}
 use Rattle.am_hint.specs.declared.status.Status.TheVariants.{Conflict, Forces, Open}
-use Rattle.am_hint.specs.HintReplay.{AllPass, clauses_of}
+use Rattle.am_hint.specs.HintReplay.{AllPass, hint_clauses}
 
 -- how many clauses are given, and the new numbers of the chains' clauses
 pub record NewNumbers : Type 0 where
@@ -44,6 +44,6 @@ IsTakenBack Open number ends by by_new row row_new = (ends ≡ false) × (by_new
 pub record AreTranslated (vars : ℕ) (k : Checked) (numbers : NewNumbers) (hints : List Hint) : Type 0 where
   pub pass : AllPass vars k.given hints
   pub given : numbers.given ≡ length k.given
-  pub moved : AreMoved k.given k.derived (clauses_of hints) numbers.chains
+  pub moved : AreMoved k.given k.derived (hint_clauses hints) numbers.chains
   pub few : length hints ≤ length k.derived
   pub short : All (λ hint. length hint.by ≤ 2 ^ 30) hints

@@ -5,6 +5,6 @@ use Rattle.am_io.specs.declared.streams.Failed.{Failed}
 use Rattle.am_io.specs.declared.streams.Failed.TheVariants as failed
 
 -- the answer is passed on, and one more fault is counted exactly where it is an error
-abbrev pub Counts : {T E : Type 0} → Result T E → Result T Failed → ℕ → ℕ → Type 0
-Counts answer result old new =
+abbrev pub CountsFaults : {T E : Type 0} → Result T E → Result T Failed → ℕ → ℕ → Type 0
+CountsFaults answer result old new =
     MatchResult answer (λ x. (result ≡ Ok x) × (new ≡ old)) (λ _. (result ≡ Err failed.Failed) × (new ≡ old + 1))

@@ -7,6 +7,6 @@ rows from [] all = []
 rows from (end ∷ ends) all = take (end - from) (drop from all) ∷ rows end ends all
 
 -- the ends don't fall, and the last one is the whole length
-abbrev pub IsCut : ℕ → List ℕ → ℕ → Type 0
-IsCut from [] total = from ≡ total
-IsCut from (end ∷ ends) total = (from ≤ end) × IsCut end ends total
+abbrev pub AreRowEnds : ℕ → List ℕ → ℕ → Type 0
+AreRowEnds from [] total = from ≡ total
+AreRowEnds from (end ∷ ends) total = (from ≤ end) × AreRowEnds end ends total

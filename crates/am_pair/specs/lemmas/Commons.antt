@@ -54,7 +54,7 @@ last-contains c [] = (zero, omega arith, refl)
 last-contains c (d ∷ words) = let rest = last-contains d words in (suc rest.0, omega (arith, rest.1), rest.2)
 
 -- a value of which all these words are members
-pub record HasWords (m : Meaning) (w : ℕ) (v : List ℕ) (words : List ℕ) : Type 0 where
+pub record HasMemberWords (m : Meaning) (w : ℕ) (v : List ℕ) (words : List ℕ) : Type 0 where
   pub value : IsAbstract m w v
   pub all : All (λ d. m.Member w v d) words
 
@@ -63,7 +63,7 @@ module _ {b : Abstraction} (laws : KeepsLaws b) (w : ℕ) (width : IsWidth w) wh
   -- joining further words to a value keeps its members and adds the words
   joined : (v : List ℕ) (words : List ℕ) → IsAbstract b.meaning w v → All (λ d. d < 2 ^ w) words →
       let all = fold (λ v d. b.join w v (b.of_word w d)) v words in
-      HasWords b.meaning w all words × ((e : ℕ) → e < 2 ^ w → b.meaning.Member w v e → b.meaning.Member w all e)
+      HasMemberWords b.meaning w all words × ((e : ℕ) → e < 2 ^ w → b.meaning.Member w v e → b.meaning.Member w all e)
   joined v [] hv below = (record { value = hv; all = λ i d h. absurd (omega arith) }, λ e h m. m)
   joined v (d ∷ words) hv below =
       let word = laws.holds_words w width d (below 0 d (omega arith)) in
@@ -80,7 +80,7 @@ module _ {b : Abstraction} (laws : KeepsLaws b) (w : ℕ) (width : IsWidth w) wh
 
   -- the join of the values of words has the words
   pub join-has : (c : ℕ) (words : List ℕ) → All (λ d. d < 2 ^ w) (c ∷ words) →
-      HasWords b.meaning w (join_of_words b w c words) (c ∷ words)
+      HasMemberWords b.meaning w (join_of_words b w c words) (c ∷ words)
   join-has c words below =
       let word = laws.holds_words w width c (below 0 c (omega arith)) in
       let rest = joined (b.of_word w c) words word.0 (λ i e h. below (suc i) e (omega arith)) in

@@ -16,11 +16,13 @@ use Rattle.am_domain.specs.Walk.{steps, walk}
 use Rattle.am_domain.specs.Laws.{HasMembers, HasTop, HoldsWords, JoinsAbove, Descends, Tidies, KeepsLaws, is_member}
 use Rattle.am_domain.specs.AnchoredLaws.{IsPart}
 use Rattle.am_domain.proofs.Laws.{pair-IsTuple}
-use Rattle.am_pair.specs.Pairs.{first, second, pairs, common, last_of, join_of_words, hull_of_words, tidy_parts}
-use Rattle.am_pair.specs.Pairs.{product}
+use Rattle.am_pair.specs.Pairs.{first, second, meaning_product, common, last_of, join_of_words, hull_of_words}
+use Rattle.am_pair.specs.Pairs.{tidy_parts}
+use Rattle.am_pair.specs.Pairs.{domain_product}
 use Rattle.am_pair.specs.lemmas.Parts.{ArePaired, parts, values, value, member, made, of_first, as_first}
 use Rattle.am_pair.specs.lemmas.Walks.{All-walk, AllPairs-walk}
-use Rattle.am_pair.specs.lemmas.Commons.{common-members, HasWords, join-has, last-most, first-least, last-contains}
+use Rattle.am_pair.specs.lemmas.Commons.{common-members, HasMemberWords, join-has, last-most, first-least}
+use Rattle.am_pair.specs.lemmas.Commons.{last-contains}
 use Rattle.am_pair.specs.lemmas.Terms.{valid-IsIndicator, member-IsIndicator}
 
 same_or_not : (xs ys : List ℕ) → (xs ≡ ys) ⊎ (xs ≢ ys)
@@ -49,16 +51,16 @@ module _ {a b : Abstraction} (laws : ArePaired a b) where
   n = b.meaning
 
   abbrev both : Meaning
-  both = pairs a.meaning b.meaning
+  both = meaning_product a.meaning b.meaning
 
-  has_members : HasMembers (product a b)
+  has_members : HasMembers (domain_product a b)
   has_members w width p h =
       let v = values laws w p h in (
         h.tuple.words 0,
         (subst (m.Member w (first p)) v.known.start (laws.walks.has_start w width (first p) v.front), h.valid.2),
       )
 
-  has_top : HasTop (product a b)
+  has_top : HasTop (domain_product a b)
   has_top w width =
       let x = laws.first.has_top w width in
       let y = laws.second.has_top w width in (
@@ -67,7 +69,7 @@ module _ {a b : Abstraction} (laws : ArePaired a b) where
             (y.1 c below),
       )
 
-  holds_words : HoldsWords (product a b)
+  holds_words : HoldsWords (domain_product a b)
   holds_words w width c below =
       let x = laws.first.holds_words w width c below in
       let y = laws.second.holds_words w width c below in (
@@ -76,7 +78,7 @@ module _ {a b : Abstraction} (laws : ArePaired a b) where
         member laws w (a.of_word w c) (b.of_word w c) c (of_first laws w (a.of_word w c) x.0.tuple) y.0.tuple x.1 y.1,
       )
 
-  joins_above : JoinsAbove (product a b)
+  joins_above : JoinsAbove (domain_product a b)
   joins_above w width p q hp hq =
       let vp = values laws w p hp in
       let vq = values laws w q hq in
@@ -99,7 +101,8 @@ module _ {a b : Abstraction} (laws : ArePaired a b) where
       }
 
   falls : (w : ℕ) → IsWidth w → (p q : List ℕ) → IsAbstract both w p → IsAbstract both w q →
-      (product a b).join w p q ≢ p → (product a b).rank w ((product a b).join w p q) < (product a b).rank w p
+      (domain_product a b).join w p q ≢ p → (domain_product a b).rank w ((domain_product a b).join w p q) <
+      (domain_product a b).rank w p
   falls w width p q hp hq changed =
       let vp = values laws w p hp in
       let vq = values laws w q hq in
@@ -122,7 +125,7 @@ module _ {a b : Abstraction} (laws : ArePaired a b) where
         ]
       ]
 
-  descends : Descends (product a b)
+  descends : Descends (domain_product a b)
   descends = record {
     most = λ w width p h.
         let v = values laws w p h in
@@ -178,7 +181,7 @@ module _ {a b : Abstraction} (laws : ArePaired a b) where
             (All-contains (λ d. m.Member w x d) (c ∷ words) last known.members (last-contains c words))
             (last-most way c words known.rise 0 c (omega arith))
 
-        joined : HasWords n w (join_of_words b w c words) (c ∷ words)
+        joined : HasMemberWords n w (join_of_words b w c words) (c ∷ words)
         joined = join-has laws.second w width c words known.below
 
         between : (e : ℕ) → Contains (c ∷ words) e → (way c ≤ way e) × (way e ≤ way last)
@@ -210,14 +213,14 @@ module _ {a b : Abstraction} (laws : ArePaired a b) where
           has = λ c h in_raw. (tell c h).1 (mx.1 c h in_raw.0, my.1 c h in_raw.1);
         })
 
-  tidies : Tidies (product a b)
+  tidies : Tidies (domain_product a b)
   tidies w width raw tuple =
       let known = parts w n.fields raw tuple in
       tidied w width raw _ _ (laws.first.tidies w width (first raw) (as_first laws w (first raw) known.front))
       (laws.second.tidies w width (second raw) known.back)
 
   -- the product of two domains is a domain
-  pub product_laws : KeepsLaws (product a b)
+  pub product_laws : KeepsLaws (domain_product a b)
   product_laws = record {
     has_fields = omega arith;
     few_fields = omega (arith, laws.few);

@@ -6,7 +6,7 @@ use Rattle.am_domain.specs.AnchoredLaws.{IsAnchored}
 use Rattle.am_domain.specs.Laws.{KeepsLaws}
 use Rattle.am_domain.specs.Meaning.{IsAbstract}
 use Rattle.am_domain.proofs.Laws.{by_two, AreWords-nil, AreWords-cons}
-use Rattle.am_pair.specs.Pairs.{first, second, pairs}
+use Rattle.am_pair.specs.Pairs.{first, second, meaning_product}
 
 -- a fact at each list of at least two numbers
 pub by_more_than_two : (P : List ℕ → Type 0) → ((x y : ℕ) (rest : List ℕ) → P (x ∷ y ∷ rest)) → (p : List ℕ)
@@ -87,7 +87,7 @@ module _ {a b : Abstraction} (laws : ArePaired a b) where
     pub meets : b.meaning.Member w (second p) (slice_index (first p) 0)
 
   -- the parts of a value of a pair
-  pub values : (w : ℕ) (p : List ℕ) → IsAbstract (pairs a.meaning b.meaning) w p → HasValues w p
+  pub values : (w : ℕ) (p : List ℕ) → IsAbstract (meaning_product a.meaning b.meaning) w p → HasValues w p
   values w p h =
       let known = parts w b.meaning.fields p h.tuple in
       record {
@@ -100,7 +100,7 @@ module _ {a b : Abstraction} (laws : ArePaired a b) where
   -- values of both that meet are a value of the pair
   pub value : (w : ℕ) (x y : List ℕ) → IsAbstract a.meaning w x → IsAbstract b.meaning w y
       → b.meaning.Member w y (slice_index x 0)
-      → IsAbstract (pairs a.meaning b.meaning) w (x ++ y)
+      → IsAbstract (meaning_product a.meaning b.meaning) w (x ++ y)
   value w x y hx hy meets =
       let known = made w b.meaning.fields x y (of_first w x hx.tuple) hy.tuple in
       record {
@@ -116,7 +116,7 @@ module _ {a b : Abstraction} (laws : ArePaired a b) where
   -- the members of what is put together are those of both
   pub member : (w : ℕ) (x y : List ℕ) (c : ℕ) → IsTuple w 2 x → IsTuple w b.meaning.fields y → a.meaning.Member w x c
       → b.meaning.Member w y c
-      → (pairs a.meaning b.meaning).Member w (x ++ y) c
+      → (meaning_product a.meaning b.meaning).Member w (x ++ y) c
   member w x y c hx hy in_x in_y =
       let known = made w b.meaning.fields x y hx hy in (
         subst (λ z. a.meaning.Member w z c) (sym known.front) in_x,
@@ -135,12 +135,12 @@ module _ {a b : Abstraction} (laws : ArePaired a b) where
   back-IsTuple w p y e h = subst (IsTuple w b.meaning.fields) (sym e) (parts w b.meaning.fields p h).back
 
   -- the first part of a pair's value is a value of the first domain
-  pub front-IsAbstract : (w : ℕ) (p x : List ℕ) → x ≡ first p → IsAbstract (pairs a.meaning b.meaning) w p
+  pub front-IsAbstract : (w : ℕ) (p x : List ℕ) → x ≡ first p → IsAbstract (meaning_product a.meaning b.meaning) w p
       → IsAbstract a.meaning w x
   front-IsAbstract w p x e h = subst (IsAbstract a.meaning w) (sym e) (values w p h).front
 
   -- the second part of a pair's value is a value of the second domain
-  pub back-IsAbstract : (w : ℕ) (p y : List ℕ) → y ≡ second p → IsAbstract (pairs a.meaning b.meaning) w p
+  pub back-IsAbstract : (w : ℕ) (p y : List ℕ) → y ≡ second p → IsAbstract (meaning_product a.meaning b.meaning) w p
       → IsAbstract b.meaning w y
   back-IsAbstract w p y e h = subst (IsAbstract b.meaning w) (sym e) (values w p h).back
 

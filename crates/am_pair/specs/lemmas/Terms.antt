@@ -21,7 +21,7 @@ use Rattle.am_domain.specs.Tuple.{IsTuple}
 use Rattle.am_domain.specs.Abstraction.{Abstraction}
 use Rattle.am_domain.specs.Laws.{IsIndicator, KeepsLaws}
 use Rattle.am_domain.proofs.Laws.{pair-IsTuple, is_member-tells}
-use Rattle.am_pair.specs.Pairs.{pairs, second_fields, pair_valid_term, pair_member_term}
+use Rattle.am_pair.specs.Pairs.{meaning_product, second_fields, pair_valid_term, pair_member_term}
 use Rattle.am_pair.specs.lemmas.Parts.{ArePaired, by_more_than_two, as_first}
 
 -- the words at consecutive places
@@ -159,12 +159,12 @@ module _ {a b : Abstraction} (laws : ArePaired a b) (w : ℕ) (width : IsWidth w
         )
 
   -- the term for validity tells at each tuple whether it is a value of the pair
-  pub valid-IsIndicator : IsIndicator w (2 + k) (2 + k) valid_term ((pairs a.meaning b.meaning).Valid w)
+  pub valid-IsIndicator : IsIndicator w (2 + k) (2 + k) valid_term ((meaning_product a.meaning b.meaning).Valid w)
   valid-IsIndicator = record {
     fit = valid-fits;
     small = valid-small;
     tells = λ env tuple. by_more_than_two
-        (λ env. IsTuple w (2 + k) env → (val w valid_term env ≢ 0) ↔ (pairs a.meaning b.meaning).Valid w env)
+        (λ env. IsTuple w (2 + k) env → (val w valid_term env ≢ 0) ↔ (meaning_product a.meaning b.meaning).Valid w env)
         valid-tells env (omega (arith, tuple.counted)) tuple;
   }
 
@@ -264,16 +264,17 @@ module _ {a b : Abstraction} (laws : ArePaired a b) (w : ℕ) (width : IsWidth w
 
   -- the term for membership tells at each tuple and word whether it is a member of the pair
   pub member-IsIndicator : IsIndicator w (2 + k) (2 + k + 1) member_term
-      (λ env. (pairs a.meaning b.meaning).Member w (take (2 + k) env) (slice_index env (2 + k)))
+      (λ env. (meaning_product a.meaning b.meaning).Member w (take (2 + k) env) (slice_index env (2 + k)))
   member-IsIndicator = record {
     fit = member-fits;
     small = member-small;
     tells = λ env tuple. by_more_than_two
         (λ env. IsTuple w (2 + k + 1) env →
-        (val w member_term env ≢ 0) ↔ (pairs a.meaning b.meaning).Member w (take (2 + k) env) (slice_index env (2 + k)))
+        (val w member_term env ≢ 0) ↔ (meaning_product a.meaning b.meaning).Member w (take (2 + k) env)
+        (slice_index env (2 + k)))
         (λ x y rest t. subst
         (λ n. (val w member_term (x ∷ y ∷ rest) ≢ 0)
-        ↔ (pairs a.meaning b.meaning).Member w (take n (x ∷ y ∷ rest)) (slice_index (x ∷ y ∷ rest) n))
+        ↔ (meaning_product a.meaning b.meaning).Member w (take n (x ∷ y ∷ rest)) (slice_index (x ∷ y ∷ rest) n))
         (let e : suc (suc k) ≡ 2 + k = omega arith in e) (member-tells x y rest t))
         env (omega (arith, tuple.counted)) tuple;
   }

@@ -11,19 +11,19 @@ use Rattle.am_tree.specs.declared.slots.Argument.{Argument}
 use Rattle.am_tree.specs.Slots.{Numbered, same, arguments, AreInside}
 
 -- a leaf fits its width and its fields, and an operator has as many arguments as its arity
-abbrev pub Suits : ℕ → ℕ → Production → Type 0
-Suits w count (Leaf t) = IsTrue (fits w count t)
-Suits w count (Node op names) = length names ≡ arity op
+abbrev pub SuitsArity : ℕ → ℕ → Production → Type 0
+SuitsArity w count (Leaf t) = IsTrue (fits w count t)
+SuitsArity w count (Node op names) = length names ≡ arity op
 
 -- a leaf is a term of few nodes
-abbrev pub IsSmall : Production → Type 0
-IsSmall (Leaf t) = nodes t < 2 ^ 32
-IsSmall (Node op names) = Unit {0}
+abbrev pub IsSmallLeaf : Production → Type 0
+IsSmallLeaf (Leaf t) = nodes t < 2 ^ 32
+IsSmallLeaf (Node op names) = Unit {0}
 
 -- what the production of a block is, over so many fields
 pub record IsFit (w count : ℕ) (p : Production) : Type 0 where
-  pub suits : Suits w count p
-  pub small : IsSmall p
+  pub suits : SuitsArity w count p
+  pub small : IsSmallLeaf p
   pub short : length (arguments p) ≤ 3
 
 -- what all productions of a table are, over so many fields
@@ -33,7 +33,7 @@ pub record AreFit (w count : ℕ) (rules : Rules) : Type 0 where
   pub few : All (λ ps. length ps ≤ 64) rules
 
 -- so many words of w literals
-pub record AreWordsOf (w count vars : ℕ) (words : List (List ℕ)) : Type 0 where
+pub record AreLiteralWords (w count vars : ℕ) (words : List (List ℕ)) : Type 0 where
   pub many : length words ≡ count
   pub each : All (IsWord w vars) words
 

@@ -35,13 +35,13 @@ pub record IsMarkedMore (row : List ℕ) (old new : List Bool) (c : List ℕ) (b
       ⊎ ((m : ℕ) × (k < length row) × Contains c m × (m ≢ besides) × (m ≡ opposite_of (slice_index row k)))
 
 -- the opposites of the literals at the marked places before a place
-pub record IsKept (row : List ℕ) (start : ℕ) (marks : List Bool) (kept : List ℕ) : Type 0 where
+pub record AreKeptLiterals (row : List ℕ) (start : ℕ) (marks : List Bool) (kept : List ℕ) : Type 0 where
   pub has : (m : ℕ) → Contains kept m →
       (k : ℕ) × (k < start) × (mark_at marks k ≡ true) × (m ≡ opposite_of (slice_index row k))
   pub gives : (k : ℕ) → k < start → mark_at marks k ≡ true → Contains kept (opposite_of (slice_index row k))
 
 -- the steps from a first clause come to a rising clause, which is marked
-pub record IsReached (clauses : List (List ℕ)) (row : List ℕ) (marks : List Bool) (first : ℕ) (steps : List Step)
+pub record IsReachedClause (clauses : List (List ℕ)) (row : List ℕ) (marks : List Bool) (first : ℕ) (steps : List Step)
     : Type 0 where
   pub current : List ℕ
   pub derived : after_steps clauses 1 (slice_index_or clauses first []) steps ≡ Ok current
@@ -50,9 +50,9 @@ pub record IsReached (clauses : List (List ℕ)) (row : List ℕ) (marks : List 
   pub named : All (λ (s : Step). Contains (map variable_of row) s.variable) steps
 
 -- no place from i on is marked any more
-pub record IsDerived (clauses : List (List ℕ)) (row : List ℕ) (marks : List Bool) (first : ℕ) (steps : List Step)
+pub record IsDerivedDownTo (clauses : List (List ℕ)) (row : List ℕ) (marks : List Bool) (first : ℕ) (steps : List Step)
     (i : ℕ) : Type 0 where
-  pub reached : IsReached clauses row marks first steps
+  pub reached : IsReachedClause clauses row marks first steps
   pub above : (k : ℕ) → i ≤ k → mark_at marks k ≡ false
   pub few : length steps + i ≤ length row
 
@@ -60,7 +60,7 @@ pub record IsDerived (clauses : List (List ℕ)) (row : List ℕ) (marks : List 
 -- all clauses, some place from there on is marked
 pub record IsResolved (clauses : List (List ℕ)) (entries : List Entry) (marks : List Bool) (first : ℕ)
     (steps : List Step) (i : ℕ) : Type 0 where
-  pub reached : IsReached clauses (literals entries) marks first steps
+  pub reached : IsReachedClause clauses (literals entries) marks first steps
   pub decided : (k : ℕ) (d : Entry) → i ≤ k → mark_at marks k ≡ true → (slice_index_or entries k d).reason ≡ None
   pub few : length steps + i ≤ length entries
   pub reaches : (start : ℕ) → All (IsSettled (take start (literals entries))) clauses
@@ -73,12 +73,12 @@ pub record IsUnique (clauses : List (List ℕ)) (row : List ℕ) (start first : 
   pub inside : place < length row
   pub here : mark_at marks place ≡ true
   pub only : (k : ℕ) → start ≤ k → mark_at marks k ≡ true → k ≡ place
-  pub keeps : IsKept row start marks kept
-  pub reached : IsReached clauses row marks first steps
+  pub keeps : AreKeptLiterals row start marks kept
+  pub reached : IsReachedClause clauses row marks first steps
   pub few : length steps ≤ length row
 
 -- one literal of the current level is left
-pub record IsAnalysed (clauses : List (List ℕ)) (t : Assigned) (first : ℕ) (kept : List ℕ) (steps : List Step)
+pub record IsAnalysedConflict (clauses : List (List ℕ)) (t : Assigned) (first : ℕ) (kept : List ℕ) (steps : List Step)
     (place : ℕ) : Type 0 where
   pub marks : List Bool
   pub start : ℕ
@@ -86,12 +86,12 @@ pub record IsAnalysed (clauses : List (List ℕ)) (t : Assigned) (first : ℕ) (
   pub unique : IsUnique clauses (literals t.entries) start first marks kept steps place
 
 -- the literal is the opposite of a decided one
-abbrev pub IsDecided : List Entry → ℕ → Type 0
-IsDecided entries m = (e : Entry) × Contains entries e × (e.reason ≡ None) × (m ≡ opposite_of e.literal)
+abbrev pub OpposesDecision : List Entry → ℕ → Type 0
+OpposesDecision entries m = (e : Entry) × Contains entries e × (e.reason ≡ None) × (m ≡ opposite_of e.literal)
 
 -- the literal at a place was decided
 abbrev pub WasDecided : List Entry → ℕ → Type 0
-WasDecided entries place = IsDecided entries (opposite_of (slice_index (literals entries) place))
+WasDecided entries place = OpposesDecision entries (opposite_of (slice_index (literals entries) place))
 
 -- a clause forces the literal at a place by the literals before it
 abbrev pub IsReasonAt : List (List ℕ) → List ℕ → ℕ → ℕ → Type 0

@@ -8,17 +8,18 @@ use Rattle.am_solve.specs.declared.choice.Choice.{Choice}
 use Rattle.am_solve.specs.declared.marks.Marks.{Marks}
 use Rattle.am_solve.specs.declared.search.Search.{Search}
 use Rattle.am_solve.specs.inside.Choosing.{IsReady}
-use Rattle.am_solve.specs.inside.Marking.{CanResolve, IsAnalysed, IsCounted, IsDerived, IsMarkedMore, IsResolved}
+use Rattle.am_solve.specs.inside.Marking.{CanResolve, IsAnalysedConflict, IsCounted, IsDerivedDownTo, IsMarkedMore}
+use Rattle.am_solve.specs.inside.Marking.{IsResolved}
 use Rattle.am_solve.specs.inside.Searching.{HasDescended, IsSearching, KeepsTo, SettledBelow}
 
 -- the marks count those from their start on, and keep the others
-abbrev pub Counts : List ℕ → Marks → Type 0
-Counts row m = IsCounted row m.start m.places.items m.kept.items m.count
+abbrev pub CountsMarks : List ℕ → Marks → Type 0
+CountsMarks row m = IsCounted row m.start m.places.items m.kept.items m.count
 
 -- the marks have a place for each entry of a trail, and count or keep its literals
 pub record FitsTrail (t : Assigned) (m : Marks) : Type 0 where
   pub len : length m.places.items ≡ length t.entries
-  pub counted : Counts (literals t.entries) m
+  pub counted : CountsMarks (literals t.entries) m
 
 -- the literal at a place can be resolved away
 abbrev pub CanResolveAt : List (List ℕ) → Assigned → Marks → ℕ → ℕ → Type 0
@@ -30,7 +31,7 @@ MarksMore row old new c besides = IsMarkedMore row old.places.items new.places.i
 
 -- the steps have come to the marked clause, and no place from one on is marked
 abbrev pub HasDerived : List (List ℕ) → Assigned → Marks → ℕ → List Step → ℕ → Type 0
-HasDerived clauses t m first steps i = IsDerived clauses (literals t.entries) m.places.items first steps i
+HasDerived clauses t m first steps i = IsDerivedDownTo clauses (literals t.entries) m.places.items first steps i
 
 -- the steps have come to the marked clause, and of the places from one on only decided ones are marked
 abbrev pub HasResolved : List (List ℕ) → Assigned → Marks → ℕ → List Step → ℕ → Type 0
@@ -47,7 +48,7 @@ pub record HasResolvedAt (clauses : List (List ℕ)) (t : Assigned) (old new : M
 
 -- what an analysis found
 abbrev pub IsAnalysis : List (List ℕ) → Assigned → ℕ → Found → Type 0
-IsAnalysis clauses t first f = IsAnalysed clauses t first f.kept.items f.steps f.place
+IsAnalysis clauses t first f = IsAnalysedConflict clauses t first f.kept.items f.steps f.place
 
 -- each variable is held or has a value
 abbrev pub Chooses : Choice → ℕ → List Entry → Type 0

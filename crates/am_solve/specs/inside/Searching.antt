@@ -5,13 +5,13 @@ use Rattle.std.specs.List.Sorted.{IsStrictlyIncreasing}
 use Rattle.am_lit.specs.Clause.{IsNormal}
 use Rattle.am_lit.specs.Literal.{variable_of}
 use Rattle.am_lit.specs.SearchLaws.{IsFalseIn}
-use Rattle.am_lit.specs.UnitRow.{AllNew, IsOver, IsSettled}
+use Rattle.am_lit.specs.UnitRow.{AllNew, IsClauseOver, IsSettled}
 use Rattle.am_chain.specs.declared.chain.Chain.{Chain}
-use Rattle.am_chain.specs.Replay.{Derives}
+use Rattle.am_chain.specs.Replay.{DerivesClauses}
 use Rattle.am_trail.specs.declared.entry.Entry.{Entry}
 use Rattle.am_trail.specs.Trails.{literals, Assigned, upto}
 use Rattle.am_solve.specs.inside.Choosing.{IsTotal}
-use Rattle.am_watch.specs.Watching.{Holds, IsExplained, Watched}
+use Rattle.am_watch.specs.Watching.{IsExplained, Watched, WatchesHold}
 
 -- each clause is settled by the literals of each level below this one
 abbrev pub SettledBelow : List (List ℕ) → List Entry → ℕ → Type 0
@@ -21,17 +21,17 @@ SettledBelow clauses entries level = (i : ℕ) → i < level → All (IsSettled 
 pub record IsSearching (given learnt : List (List ℕ)) (vars : ℕ) (log : List Chain) (watch : Watched) (t : Assigned)
     : Type 0 where
   pub width : t.vars ≡ vars
-  pub holds : Holds watch (given ++ learnt) t
+  pub holds : WatchesHold watch (given ++ learnt) t
   pub explained : IsExplained 0 (given ++ learnt) t.entries
   pub below : SettledBelow (given ++ learnt) t.entries t.level
   pub normal : All (IsNormal vars) (given ++ learnt)
-  pub derives : Derives given log learnt
+  pub derives : DerivesClauses given log learnt
   pub new : AllNew given learnt
   pub steps : All (λ chain. length chain.steps ≤ vars) log
 
 -- the clause is over the variables of a list alone, and only variables of the list were decided
 pub record KeepsTo (base : List ℕ) (learnt : List (List ℕ)) (entries : List Entry) : Type 0 where
-  pub over : All (IsOver base) learnt
+  pub over : All (IsClauseOver base) learnt
   pub decided : (e : Entry) → Contains entries e → e.reason ≡ None → Contains base (variable_of e.literal)
 
 -- the clause of a number is false

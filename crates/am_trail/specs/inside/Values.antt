@@ -6,11 +6,11 @@ use Rattle.am_trail.specs.declared.values.Value.{Value}
 use Rattle.am_trail.specs.declared.values.Value.TheVariants.{Free, True, False}
 
 -- the value that a row of true literals gives a literal
-abbrev pub IsValue : List ℕ → ℕ → Value → Type 0
-IsValue row l Free = IsFree row l
-IsValue row l True = Contains row l
-IsValue row l False = Contains row (opposite_of l)
+abbrev pub IsLiteralValue : List ℕ → ℕ → Value → Type 0
+IsLiteralValue row l Free = IsFree row l
+IsLiteralValue row l True = Contains row l
+IsLiteralValue row l False = Contains row (opposite_of l)
 
 -- at the code of each literal stands its value
-abbrev pub AreValues : List ℕ → List Value → Type 0
-AreValues row values = (l : ℕ) → l < length values → IsValue row l (slice_index_or values l Free)
+abbrev pub AreLiteralValues : List ℕ → List Value → Type 0
+AreLiteralValues row values = (l : ℕ) → l < length values → IsLiteralValue row l (slice_index_or values l Free)

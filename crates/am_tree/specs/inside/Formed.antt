@@ -4,6 +4,6 @@ use Rattle.am_tree.specs.declared.grammar.Production.{Production}
 use Rattle.am_tree.specs.Grammars.{is_production}
 
 -- each is a production of a grammar with these rules, and there are few enough
-pub record AreRules (rules : List (List Production)) : Type 0 where
+pub record AreGrammarRules (rules : List (List Production)) : Type 0 where
   pub each : All (All (λ p. IsTrue (is_production (length rules) p))) rules
   pub few : sum_by length rules ≤ 64

@@ -45,6 +45,6 @@ pub record Joins (rules : Rules) (d : ℕ) (names : List ℕ) (args : List Term)
   pub gives : terms_at names (givers rules ts) ≡ args
 
 -- trees from the nonterminals that give the terms, or None where there are none
-abbrev pub AreJoined : Rules → ℕ → List ℕ → List Term → Option (List Tree) → Type 0
-AreJoined rules d names args found =
+abbrev pub AreJoinedTrees : Rules → ℕ → List ℕ → List Term → Option (List Tree) → Type 0
+AreJoinedTrees rules d names args found =
     MatchOption found ((ts : List Tree) → ¬ Joins rules d names args ts) (Joins rules d names args)

@@ -25,6 +25,6 @@ pub record HasBounds (rules : Rules) : Type 0 where
   pub inside : AreInside (length rules) rules
 
 -- so many numbers, none above the greatest
-pub record AreNumbers (count greatest : ℕ) (numbers : List ℕ) : Type 0 where
+pub record AreBoundedTotals (count greatest : ℕ) (numbers : List ℕ) : Type 0 where
   pub len : length numbers ≡ count
   pub most : All (λ x. x ≤ greatest) numbers

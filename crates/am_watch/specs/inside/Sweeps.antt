@@ -24,7 +24,7 @@ IsVisited clauses l j old new entries (Conflicts i) =
     (i < length clauses) × IsFalseIn (literals entries) (clause_at clauses i)
 
 -- the watcher at a place in the list of a false literal may turn to another literal of its clause
-pub record IsTurn (lists : List (List Watcher)) (pairs : List Pair) (clauses : List (List ℕ)) (row : List ℕ)
+pub record IsWatchTurn (lists : List (List Watcher)) (pairs : List Pair) (clauses : List (List ℕ)) (row : List ℕ)
     (l j i other' next' : ℕ) : Type 0 where
   pub place : j < length (list_at lists l)
   pub number : i < length clauses

@@ -2,7 +2,7 @@ use Rattle.std.proofs.Common.{◌≡◌, [], length, refl, arith}
 use Rattle.am_problem.specs.Kinds.{fields_of}
 use Rattle.am_all.specs.AllBest.{ends}
 use Rattle.am_tree.specs.Listed.{trees_of, tuples_of}
-use Rattle.am_all.specs.inside.Levels.{AreLevels, IsTold}
+use Rattle.am_all.specs.inside.Levels.{AreLevels, IsToldLevel}
 use Rattle.am_all.proofs.NumberLaws.{one-less}
 use Rattle.am_all.proofs.TreeLists.{levels-below, levels-last}
 use Rattle.am_all.proofs.all.all_best.Goals as goal
@@ -29,7 +29,7 @@ returns-then-not-have_trees c =
     rw c.grammar-grammar.ensures.rules at c.in_ok-levels.ensures.1 in
     let told = levels-last p.rules c.in_ok-levels.levels c.in-Some.below.now c.in-Some.last.now split.0 all in
     let depth : length c.in-Some.below.now ≡ p.depth = omega (arith, split.1, deep, c.grammar-grammar.ensures.depth) in
-    let level : IsTold (trees_of p.rules (length c.in-Some.below.now)) c.as_slice-3.result.now =
+    let level : IsToldLevel (trees_of p.rules (length c.in-Some.below.now)) c.as_slice-3.result.now =
     rw c.as_slice-3.ensures told in
     let empty : tuples_of p.rules p.starts p.depth ≡ [] =
     rw (c.as_slice-2.ensures, c.grammar-grammar.ensures.starts, depth) at

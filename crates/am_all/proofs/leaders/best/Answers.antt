@@ -1,7 +1,7 @@
 use Rattle.std.proofs.Common.{◌+◌, List, map, take, sym, ap, ◌∙◌, subst}
 use Rattle.std.proofs.lemmas.List.{length-map, take_all}
 use Rattle.am_tree.specs.declared.tree.Tree.{Tree}
-use Rattle.am_all.specs.AllBest.{GivesBest, Keeps, ends}
+use Rattle.am_all.specs.AllBest.{GivesBest, KeepsWhere, ends}
 use Rattle.am_all.specs.inside.Leaders.{tree_numbers}
 use Rattle.am_all.proofs.BestLaws.{keeps-kept, keeps-dropped}
 use Rattle.am_all.proofs.Leading.{leading-best, led-not_best}
@@ -50,7 +50,7 @@ loop-tuple-preserved c =
     let more = taken (λ tuple. map (λ d. d.now.tree) tuple) c.args.tuples.now c.loop-tuple.tuple-index
     c.tuple-item.result c.loop-tuple-test.true c.tuple-item.is in
     let Best : List (List Tree) → Type 0 =
-    λ best. Keeps (GivesBest p) (take (c.loop-tuple.tuple-index + 1)
+    λ best. KeepsWhere (GivesBest p) (take (c.loop-tuple.tuple-index + 1)
     (map (λ tuple. map (λ d. d.now.tree) tuple) c.args.tuples.now)) best in
     elim c.if-is_leading.branch [
       | then-is_leading+in_ok-trees+in_ok-push w ↦

@@ -1,7 +1,7 @@
 use Rattle.std.proofs.Common.{ℕ, List, subst}
 use Rattle.std.proofs.lemmas.List.{take_all}
 use Rattle.std.proofs.lemmas.List.Elements.{All-more}
-use Rattle.am_all.specs.inside.Results.{IsInside}
+use Rattle.am_all.specs.inside.Results.{IsResultInside}
 use Rattle.am_all.proofs.LeaderLaws.{inside-beyond}
 use Rattle.am_all.proofs.leaders.is_leading.Goals as goal
 use Rattle.am_all.proofs.leaders.is_leading.Goals.{else-is_inside-via-then-is_inside+else-not-is_inside}
@@ -11,7 +11,7 @@ pub loop-leader-preserved : goal.loop-leader-preserved
 loop-leader-preserved c =
     let sets = c.args.sets.now in
     let numbers = c.args.numbers.now in
-    let Unled : List ℕ → Type 0 = λ leader. IsInside sets leader numbers → IsInside sets numbers leader in
+    let Unled : List ℕ → Type 0 = λ leader. IsResultInside sets leader numbers → IsResultInside sets numbers leader in
     All-more Unled c.args.leaders.now c.loop-leader.leader-index c.leader-item.result c.loop-leader-test.true
     c.loop-leader.invariant
     (subst Unled c.leader-item.is (elim c.else-is_inside.branch [

@@ -1,6 +1,6 @@
 use Rattle.std.proofs.Common.{◌++◌, ◌∷◌, [], ℕ, List}
 use Rattle.std.proofs.lemmas.Result.{IfOk-weaker}
-use Rattle.am_all.specs.inside.Leaders.{AreJoined, AreLeaders}
+use Rattle.am_all.specs.inside.Leaders.{AreJoinedLeaders, AreLeaders}
 use Rattle.am_all.proofs.LeaderLaws.{leaders-joined, leaders-led, leaders-unsound, missing-uncovered}
 use Rattle.am_all.proofs.leaders.next_leaders.Goals as goal
 use Rattle.am_all.proofs.leaders.next_leaders.Goals.{then-not-is_covering-via-then-not-is_covering}
@@ -26,7 +26,7 @@ returns c =
     let cases = c.args.cases.now in
     let sets = c.args.sets.now in
     let numbers = c.args.numbers in
-    IfOk-weaker c.with_leader.result (λ joined. AreJoined sets c.args.leaders.items numbers joined.items)
+    IfOk-weaker c.with_leader.result (λ joined. AreJoinedLeaders sets c.args.leaders.items numbers joined.items)
     (λ next. (listed : List (List ℕ)) → AreLeaders cases sets listed c.args.leaders.items →
     AreLeaders cases sets (listed ++ numbers ∷ []) next.items)
     (λ joined are listed lead.

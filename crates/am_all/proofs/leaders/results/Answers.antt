@@ -4,7 +4,7 @@ use Rattle.std.proofs.lemmas.Result.{IfOk-weaker}
 use Rattle.am_bv.specs.Words.{AreWords}
 use Rattle.am_all.specs.declared.candidates.Candidate.{Candidate}
 use Rattle.am_all.specs.inside.Leaders.{tree_numbers}
-use Rattle.am_all.specs.inside.Results.{AreNumbers}
+use Rattle.am_all.specs.inside.Results.{AreResultNumbers}
 use Rattle.am_all.proofs.ChoiceLaws.{map-map}
 use Rattle.am_all.proofs.Lists.{all-unmap}
 use Rattle.am_all.proofs.TupleLaws.{found-numbers, tuple-few, tuple-each}
@@ -31,7 +31,7 @@ returns c =
     let p = c.args.p.now in
     let tuple = map (λ d. d.now) c.args.tuple.now in
     let trees = map-map (λ (d : Candidate). d.tree) (λ d. d.now) c.args.tuple.now in
-    IfOk-weaker c.numbers.result (AreNumbers p.width tuple (length c.args.cases.now))
+    IfOk-weaker c.numbers.result (AreResultNumbers p.width tuple (length c.args.cases.now))
     (λ numbers. numbers ≡ tree_numbers p c.args.cases.now (map (λ d. d.now.tree) c.args.tuple.now))
     (λ numbers found. found-numbers p c.args.cases.now tuple numbers c.requires.tuple found ∙ ap
     (tree_numbers p c.args.cases.now) trees)

@@ -2,7 +2,7 @@ use Rattle.std.proofs.Common.{◌≡◌, ◌+◌, [], get_or, refl, sym, subst, 
 use Rattle.am_problem.specs.Kinds.{fields_of}
 use Rattle.am_all.specs.declared.word_set.WordSet.{WordSet}
 use Rattle.am_all.specs.inside.Numbers.{words_at}
-use Rattle.am_all.specs.inside.Values.{HasMembers}
+use Rattle.am_all.specs.inside.Values.{IsMemberSet}
 use Rattle.am_all.proofs.ValueLaws.{Found, found_valid, found_invalid, found_all}
 use Rattle.am_all.proofs.values.abstract_values.Goals as goal
 use Rattle.am_all.proofs.values.abstract_values.Goals.{then-valid+in_ok-push, else-valid}
@@ -25,7 +25,7 @@ loop-number-preserved c =
               valid =
                   rw (c.kind-kind.ensures, c.width-w.ensures) at (w.if-valid.ensures.0 refl);
             };
-            members = subst (λ a. HasMembers p a set) (sym is)
+            members = subst (λ a. IsMemberSet p a set) (sym is)
                 (c.requires.sets.each number (record { parts = [] }) c.loop-number-test.true);
           }) is))
       | else-valid w ↦

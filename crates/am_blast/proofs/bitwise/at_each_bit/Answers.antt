@@ -1,6 +1,6 @@
 use Rattle.std.proofs.Common.{◌∷◌, append_assoc, append-nil, arith}
 use Rattle.am_gate.specs.Build.{place_of}
-use Rattle.am_gate.proofs.Laws.{Grows-trans, Begins-trans, Gives-Follows}
+use Rattle.am_gate.proofs.Laws.{Grows-trans, Begins-trans, GivesStep-Follows}
 use Rattle.am_blast.proofs.Bits.{Makes-bitwise, Follows-bitwise_at, Follows-bitwise_end}
 use Rattle.am_blast.proofs.bitwise.at_each_bit.Goals as goal
 
@@ -18,7 +18,7 @@ loop-i-preserved c = record {
 
 pub returns-clause-ok : goal.returns-clause-ok
 returns-clause-ok c =
-    Gives-Follows
+    GivesStep-Follows
     (Makes-bitwise c.args.gate c.args.a.now c.args.b.now (place_of c.args.circuit.now) c.requires.words.lengths
     c.requires.gate c.requires.words.first c.requires.words.second)
     (rw append-nil at (c.loop-i.invariant.follows _ c.loop-i.circuit

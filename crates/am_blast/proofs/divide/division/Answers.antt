@@ -2,7 +2,7 @@ use Rattle.std.proofs.Common.{[], ◌≡◌, ◌+◌, ◌*◌, ◌<◌, ◌≤�
 use Rattle.std.proofs.lemmas.List.{length-reverse}
 use Rattle.am_gate.specs.Circuit.{falsity}
 use Rattle.am_gate.specs.Build.{place_of}
-use Rattle.am_gate.proofs.Laws.{Begins-trans, Gives-Follows}
+use Rattle.am_gate.proofs.Laws.{Begins-trans, GivesStep-Follows}
 use Rattle.am_blast.proofs.Division.{room-round, Makes-division, Follows-division_from_at, Follows-division_from_end}
 use Rattle.am_blast.proofs.divide.division.Goals as goal
 
@@ -40,7 +40,7 @@ pub returns-clause-ok : goal.returns-clause-ok
 returns-clause-ok c =
     let past : length (reverse c.args.a.now) ≤ c.loop-l.l-index =
     rw (c.as_slice-l-items.ensures, c.in_ok-dividend.ensures) at c.loop-l-test.false in
-    Gives-Follows
+    GivesStep-Follows
     (Makes-division (length c.args.a.now) c.args.a.now c.args.b.now (place_of c.args.circuit.now)
     (rw c.truth.ensures.truth at c.truth.ensures.inside)
     (record { bits = refl; inside = c.requires.words.first })

@@ -2,7 +2,7 @@ use Rattle.std.proofs.Common.{sym, ◌∙◌}
 use Rattle.std.proofs.lemmas.List.{length-map}
 use Rattle.am_lit.specs.Literal.{opposite_of}
 use Rattle.am_gate.specs.Build.{place_of}
-use Rattle.am_gate.proofs.Laws.{Gives-Follows}
+use Rattle.am_gate.proofs.Laws.{GivesStep-Follows}
 use Rattle.am_blast.specs.declared.shift.Direction.TheVariants.{Up}
 use Rattle.am_blast.specs.Shifts.{moved}
 use Rattle.am_blast.proofs.Words.{All-opposites, All-later}
@@ -39,7 +39,7 @@ at_each_bit-requires-clause-words c =
 
 pub returns-clause-ok : goal.returns-clause-ok
 returns-clause-ok c =
-    Gives-Follows
+    GivesStep-Follows
     (Makes-round c.args.bit c.args.remainder.now c.args.divisor.now (place_of c.args.circuit.now)
     (rw c.truth-truth.ensures.truth at c.truth-truth.ensures.inside)
     c.requires.words.lengths c.requires.bit c.requires.words.second c.requires.words.first)

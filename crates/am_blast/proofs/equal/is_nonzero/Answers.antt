@@ -1,7 +1,7 @@
 use Rattle.std.proofs.Common.{arith}
 use Rattle.am_gate.specs.Circuit.{falsity}
 use Rattle.am_gate.specs.Build.{place_of}
-use Rattle.am_gate.proofs.Laws.{Grows-trans, Begins-trans, Gives-Follows}
+use Rattle.am_gate.proofs.Laws.{Grows-trans, Begins-trans, GivesStep-Follows}
 use Rattle.am_blast.proofs.Equality.{Makes-nonzero_from, Follows-nonzero_from_at, Follows-nonzero_from_end}
 use Rattle.am_blast.proofs.equal.is_nonzero.Goals as goal
 
@@ -18,7 +18,7 @@ loop-l-preserved c = record {
 
 pub returns-clause-ok : goal.returns-clause-ok
 returns-clause-ok c =
-    Gives-Follows
+    GivesStep-Follows
     (Makes-nonzero_from falsity c.args.a.now (place_of c.args.circuit.now)
     (rw c.truth.ensures.truth at c.truth.ensures.inside) c.requires.word)
     (c.loop-l.invariant.follows _ c.loop-l.circuit

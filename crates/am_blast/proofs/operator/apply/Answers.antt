@@ -2,7 +2,7 @@ use Rattle.std.proofs.Common.{◌≡◌, ◌<◌, List, [], ℕ, length, ◌∙�
 use Rattle.std.specs.Prelude.{slice_index_or}
 use Rattle.std.proofs.lemmas.List.{get_or_default}
 use Rattle.std.proofs.lemmas.Result.{IfOk-weaker}
-use Rattle.am_gate.proofs.Laws.{Gives-answer}
+use Rattle.am_gate.proofs.Laws.{GivesStep-answer}
 use Rattle.am_blast.specs.Words.{opposites}
 use Rattle.am_blast.proofs.Words.{IsWord-opposites}
 use Rattle.am_blast.proofs.operator.apply.Goals as goal
@@ -17,5 +17,5 @@ returns-in-Not-clause-ok c =
     rw c.in-Not.is
     (IfOk-weaker c.opposites.result (λ r. r ≡ opposites c.as_slice-a.result.now) _
     (λ r e. rw (e, here)
-    (Gives-answer (IsWord-opposites c.args.w c.args.circuit.now.vars a (c.requires.words 0 [] some))))
+    (GivesStep-answer (IsWord-opposites c.args.w c.args.circuit.now.vars a (c.requires.words 0 [] some))))
     c.opposites.ensures)

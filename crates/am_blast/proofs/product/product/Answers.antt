@@ -2,7 +2,7 @@ use Rattle.std.proofs.Common.{◌+◌, ◌-◌, ◌*◌, ◌<◌, ◌≤◌, len
 use Rattle.std.proofs.lemmas.List.{length-take-le}
 use Rattle.std.proofs.lemmas.List.Elements.{All-append}
 use Rattle.am_gate.specs.Build.{place_of}
-use Rattle.am_gate.proofs.Laws.{Grows-same, HasRoom-grown, Begins-trans, Gives-Follows}
+use Rattle.am_gate.proofs.Laws.{Grows-same, HasRoom-grown, Begins-trans, GivesStep-Follows}
 use Rattle.am_gate.specs.Circuit.{IsLiteral}
 use Rattle.am_blast.specs.Words.{zeros}
 use Rattle.am_blast.proofs.Words.{All-zeros, All-later}
@@ -77,7 +77,7 @@ loop-i-preserved c =
 
 pub returns-clause-ok : goal.returns-clause-ok
 returns-clause-ok c =
-    Gives-Follows
+    GivesStep-Follows
     (Makes-product (length c.args.a.now) c.args.a.now c.args.b.now (place_of c.args.circuit.now)
     (rw c.truth.ensures.truth at c.truth.ensures.inside)
     (record { bits = refl; inside = c.requires.words.first })

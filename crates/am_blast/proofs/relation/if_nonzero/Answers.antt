@@ -1,5 +1,5 @@
-use Rattle.am_blast.proofs.Giving.{Gives-choice}
+use Rattle.am_blast.proofs.Giving.{GivesStep-choice}
 use Rattle.am_blast.proofs.relation.if_nonzero.Goals as goal
 
 pub returns-clause-ok : goal.returns-clause-ok
-returns-clause-ok c = Gives-choice _ _ c.in_ok-holds.ensures.ok c.in_ok-word.ensures.ok
+returns-clause-ok c = GivesStep-choice _ _ c.in_ok-holds.ensures.ok c.in_ok-word.ensures.ok

@@ -1,4 +1,4 @@
-use Rattle.am_blast.proofs.Comparisons.{AreWords-sign_turned}
+use Rattle.am_blast.proofs.Comparisons.{AreWordPair-sign_turned}
 use Rattle.am_blast.proofs.relation.test.Goals as goal
 
 pub is_below-requires-in-SignedBelow-clause-words : goal.is_below-requires-in-SignedBelow-clause-words
@@ -9,7 +9,7 @@ is_below-requires-in-SignedBelow-clause-words c =
       c.as_slice-in-SignedBelow.ensures,
       c.in_ok-b-in-SignedBelow.ensures,
     )
-    (AreWords-sign_turned c.args.circuit.now.vars c.args.a.now c.args.b.now c.requires.words)
+    (AreWordPair-sign_turned c.args.circuit.now.vars c.args.a.now c.args.b.now c.requires.words)
 
 pub is_at_most-requires-in-SignedAtMost-clause-words : goal.is_at_most-requires-in-SignedAtMost-clause-words
 is_at_most-requires-in-SignedAtMost-clause-words c =
@@ -19,4 +19,4 @@ is_at_most-requires-in-SignedAtMost-clause-words c =
       c.as_slice-in-SignedAtMost-2.ensures,
       c.in_ok-b-in-SignedAtMost.ensures,
     )
-    (AreWords-sign_turned c.args.circuit.now.vars c.args.a.now c.args.b.now c.requires.words)
+    (AreWordPair-sign_turned c.args.circuit.now.vars c.args.a.now c.args.b.now c.requires.words)

@@ -1,8 +1,8 @@
 use Rattle.std.proofs.Common.{◌≡◌, ◌/◌, ◌<◌, ◌^◌, length, ◌∙◌, arith}
 use Rattle.am_gate.specs.Build.{place_of}
-use Rattle.am_gate.proofs.Laws.{Grows-trans, Begins-trans, Gives-Follows}
+use Rattle.am_gate.proofs.Laws.{Grows-trans, Begins-trans, GivesStep-Follows}
 use Rattle.am_blast.specs.Shifts.{moved}
-use Rattle.am_blast.proofs.Words.{AreWords-alike}
+use Rattle.am_blast.proofs.Words.{AreWordPair-alike}
 use Rattle.am_blast.proofs.Shifts.{IsWord-moved, Makes-shifted_from, Follows-shifted_from_at, Follows-shifted_from_end}
 use Rattle.am_blast.proofs.Shifts.{length-moved, one_shifted}
 use Rattle.am_blast.proofs.shift.shifted.Goals as goal
@@ -13,7 +13,7 @@ at_each_bit-requires-clause-words c =
     let word = c.loop-k.invariant.word in
     let fill : c.args.fill / 2 < vars = omega (arith, c.requires.fill, c.loop-k.invariant.begins.vars) in
     rw (c.as_slice-in-loop-k.ensures, c.as_slice-in-loop-k-2.ensures, c.in_ok-from.ensures, c.as_slice.ensures)
-    (AreWords-alike (length c.args.a.now) vars _ c.loop-k.word
+    (AreWordPair-alike (length c.args.a.now) vars _ c.loop-k.word
     (IsWord-moved c.args.direction vars c.args.fill _ (length c.args.a.now) c.loop-k.word fill word) word)
 
 pub loop-k-preserved : goal.loop-k-preserved
@@ -44,7 +44,7 @@ loop-k-preserved c =
 
 pub returns-clause-ok : goal.returns-clause-ok
 returns-clause-ok c =
-    Gives-Follows
+    GivesStep-Follows
     (rw c.requires.words.lengths at
     (Makes-shifted_from c.args.direction (length c.args.a.now) c.args.fill 0 c.args.a.now c.args.by.now
     (place_of c.args.circuit.now) c.requires.fill

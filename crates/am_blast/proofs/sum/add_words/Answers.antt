@@ -1,6 +1,6 @@
 use Rattle.std.proofs.Common.{◌∷◌, [], append_assoc, append-nil, arith}
 use Rattle.am_gate.specs.Build.{place_of}
-use Rattle.am_gate.proofs.Laws.{Grows-trans, Begins-trans, Gives-Follows}
+use Rattle.am_gate.proofs.Laws.{Grows-trans, Begins-trans, GivesStep-Follows}
 use Rattle.am_blast.proofs.Sums.{Makes-adder, Follows-adder_at, Follows-adder_end}
 use Rattle.am_blast.proofs.sum.add_words.Goals as goal
 
@@ -19,7 +19,7 @@ loop-i-preserved c = record {
 
 pub returns-clause-ok : goal.returns-clause-ok
 returns-clause-ok c =
-    Gives-Follows
+    GivesStep-Follows
     (Makes-adder c.args.a.now c.args.b.now c.args.c (place_of c.args.circuit.now) c.requires.words.lengths
     c.requires.words.first c.requires.words.second c.requires.third)
     (rw append-nil at (c.loop-i.invariant.follows ([], c.loop-i.carry) c.loop-i.circuit

@@ -6,7 +6,7 @@ use Rattle.std.proofs.lemmas.List.{take_all, get_or_default}
 use Rattle.std.proofs.lemmas.List.Sums.{sum_by_more, sum_by_more_le}
 use Rattle.std.proofs.lemmas.List.Elements.{All-push}
 use Rattle.std.proofs.lemmas.Result.{IfOk-weaker}
-use Rattle.am_gate.proofs.Laws.{Follows-bind, Grows-trans, Begins-trans, HasRoom-grown, Gives-answer}
+use Rattle.am_gate.proofs.Laws.{Follows-bind, Grows-trans, Begins-trans, HasRoom-grown, GivesStep-answer}
 use Rattle.am_bv.specs.Operators.{weight_of}
 use Rattle.am_bv.specs.Terms.{fits, nodes, weight}
 use Rattle.am_bv.specs.declared.term.Term.{the_lemmas}
@@ -101,7 +101,7 @@ pub returns-in-Const-clause-ok : goal.returns-in-Const-clause-ok
 returns-in-Const-clause-ok t c =
     rw (c.in-Const.is, blasted-Const c.args.w c.args.fields.now c.in-Const.c, weight-Const c.args.w c.in-Const.c)
     (IfOk-weaker c.constant.result (λ r. r ≡ constant c.args.w c.in-Const.c) _
-    (λ r e. rw e (Gives-answer
+    (λ r e. rw e (GivesStep-answer
     (record {
       bits = length-constant c.args.w c.in-Const.c;
       inside = All-constant c.args.w c.in-Const.c c.args.circuit.now.vars c.requires.truth;
@@ -120,7 +120,7 @@ returns-in-Field-clause-ok t c =
     ∙ (c.index-fields-i.is ∙ get_or_default fields c.in-Field.i c.index-fields-i.result [] within) in
     rw (c.in-Field.is, blasted-Field c.args.w fields c.in-Field.i, weight-Field c.args.w c.in-Field.i)
     (IfOk-weaker c.copied.result (λ r. r ≡ c.as_slice.result.now) _
-    (λ r e. rw (e, here) (Gives-answer (c.requires.fields c.in-Field.i [] within)))
+    (λ r e. rw (e, here) (GivesStep-answer (c.requires.fields c.in-Field.i [] within)))
     c.copied.ensures)
 
 pub returns-after-loop-t-clause-ok : goal.returns-after-loop-t-clause-ok

@@ -1,10 +1,10 @@
 use Rattle.std.proofs.Common.{List, Err, ap, sym, ◌∙◌}
 use Rattle.std.proofs.lemmas.Result.{err_from_is_err_and}
 use Rattle.am_chain.specs.declared.chain.Step.{Step}
-use Rattle.am_syntax.specs.Pieces.{MovesOn, repeat}
+use Rattle.am_syntax.specs.Pieces.{MovesOn, is_number_next, repeat}
 use Rattle.am_syntax.specs.Readers.{Reader}
 use Rattle.am_syntax.proofs.Laws.{makes_refused, moves_on, so_far_done, so_far_fails, so_far_more}
-use Rattle.am_cert.specs.Grammar.{is_number_next, step}
+use Rattle.am_cert.specs.Grammar.{step}
 use Rattle.am_cert.proofs.ChainLaws.{step_law, step_moves}
 use Rattle.am_cert.proofs.chains.read_steps.Goals as goal
 

@@ -1,6 +1,6 @@
 use Rattle.std.proofs.Common.{◌≡◌, [], length}
-use Rattle.am_syntax.specs.Pieces.{repeat_from}
-use Rattle.am_cert.specs.Grammar.{is_number_next, step}
+use Rattle.am_syntax.specs.Pieces.{is_number_next, repeat_from}
+use Rattle.am_cert.specs.Grammar.{step}
 use Rattle.am_cert.proofs.chains.read_steps.Given as goal
 
 abbrev pub decreases-steps : goal.decreases-steps

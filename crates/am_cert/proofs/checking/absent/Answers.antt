@@ -1,6 +1,6 @@
 use Rattle.std.proofs.Common.{Err, Ok, [], subst}
 use Rattle.std.proofs.lemmas.Result.{err_from_is_err_and}
-use Rattle.am_query.specs.Formulas.{circuit_of}
+use Rattle.am_query.specs.Formulas.{query_circuit}
 use Rattle.am_query.specs.Turns.{after_trace}
 use Rattle.am_query.specs.declared.query.Query.TheVariants.{Fit}
 use Rattle.am_query.specs.declared.state.State.{State}
@@ -24,7 +24,7 @@ returns c =
     let p = c.args.c.now.problem in
     let r = c.fit_refuted.result in
     let log = c.args.log.now in
-    let formula = λ (s : State). circuit_of (folds c.args.c.now.version) p (Fit s.positives []) in
+    let formula = λ (s : State). query_circuit (folds c.args.c.now.version) p (Fit s.positives []) in
     let positives = positives_here c.problem-p.result.now p c.problem-p.ensures c.in_ok-positives.field-0
     (after_trace c.args.trace.now) c.in_ok-positives.ensures (Ok tt) c.in_ok-positives_true.ensures in
     let proofs = c.args.c.now.proofs in

@@ -1,13 +1,13 @@
 use Rattle.std.proofs.Common.{Err, Ok, subst}
 use Rattle.std.proofs.lemmas.Result.{err_from_is_err_and}
 use Rattle.am_problem.proofs.Laws.{derivable_terms_fit}
-use Rattle.am_query.specs.Formulas.{circuit_of}
+use Rattle.am_query.specs.Formulas.{query_circuit}
 use Rattle.am_query.specs.Turns.{after_trace}
 use Rattle.am_query.specs.declared.query.Query.TheVariants.{Precise}
 use Rattle.am_query.specs.declared.state.State.{State}
 use Rattle.am_cert.specs.Versions.{folds}
 use Rattle.am_cert.specs.inside.Verdicts.{IsVerdictOf, second_refuted}
-use Rattle.am_cert.proofs.Verdicts.{behind_examples, behind_positives, first_failed, first_passed, negatives_here}
+use Rattle.am_cert.proofs.Verdicts.{after_examples, after_positives, first_failed, first_passed, negatives_here}
 use Rattle.am_cert.proofs.Verdicts.{positives_here, terms_here}
 use Rattle.am_cert.proofs.checking.best.Goals as goal
 
@@ -53,7 +53,7 @@ returns-in_err-negatives_true c =
     let failed = err_from_is_err_and r c.from_residual-in_err-negatives_true.ensures.1 in
     let fail = c.in_err-negatives_true.field-0.0 in
     let negatives = negatives_here q p same s e after t (Err fail) c.in_err-negatives_true.ensures in
-    behind_positives q p same s e after t _ r c.in_ok-terms_inside.ensures.verdict c.in_ok-positives_true.ensures
+    after_positives q p same s e after t _ r c.in_ok-terms_inside.ensures.verdict c.in_ok-positives_true.ensures
     (first_failed _ _ r fail failed.0 failed.1 failed.2 negatives)
 
 pub returns-in_err-unsound_refuted : goal.returns-in_err-unsound_refuted
@@ -61,7 +61,7 @@ returns-in_err-unsound_refuted c =
     let r = c.from_residual-in_err-unsound_refuted.result in
     let failed = err_from_is_err_and r c.from_residual-in_err-unsound_refuted.ensures.1 in
     let fail = c.in_err-unsound_refuted.field-0.0 in
-    behind_examples c.problem-p.result.now c.args.c.now.problem c.problem-p.ensures c.in_ok-state.state
+    after_examples c.problem-p.result.now c.args.c.now.problem c.problem-p.ensures c.in_ok-state.state
     (after_trace c.args.trace.now) c.in_ok-state.ensures c.args.terms.now _ r c.in_ok-terms_inside.ensures.verdict
     c.in_ok-positives_true.ensures c.in_ok-negatives_true.ensures
     (first_failed _ _ r fail failed.0 failed.1 failed.2 c.in_err-unsound_refuted.ensures)
@@ -74,11 +74,11 @@ returns c =
     let after = c.in_ok-state.ensures in
     let r = c.closer_refuted.result in
     let log = c.args.best_log.now in
-    let formula = λ (s : State). circuit_of (folds c.args.c.now.version) p (Precise t s.positives s.negatives) in
+    let formula = λ (s : State). query_circuit (folds c.args.c.now.version) p (Precise t s.positives s.negatives) in
     let proofs = c.args.c.now.proofs in
     let closest =
     subst (λ (s : State). IsVerdictOf (second_refuted proofs log (formula s).vars (formula s).clauses) r) after
     c.closer_refuted.ensures in
-    behind_examples c.problem-p.result.now p c.problem-p.ensures c.in_ok-state.state e after t _ r
+    after_examples c.problem-p.result.now p c.problem-p.ensures c.in_ok-state.state e after t _ r
     c.in_ok-terms_inside.ensures.verdict c.in_ok-positives_true.ensures c.in_ok-negatives_true.ensures
     (first_passed _ _ r c.in_ok-unsound_refuted.ensures closest)

@@ -25,14 +25,14 @@ absent-requires-clause-stored c =
     let good = subst (CanBeWritten c.args.c.now.problem is.problem) (sym c.outcome.ensures ∙ absent.is) is.outcome in
     absent_stored c.args.c.now.problem is.problem absent.trace absent.log good
 
-pub returns-in-Best : goal.returns-in-Best
-returns-in-Best c =
+pub returns-in-Best-clause-verdict : goal.returns-in-Best-clause-verdict
+returns-in-Best-clause-verdict c =
     let best = c.in-Best in
     own_verdict c.args.c.now (Best best.term best.trace best.sound_log best.best_log)
     (sym (sym c.outcome.ensures ∙ best.is)) c.best.result c.best.ensures
 
-pub returns-in-Absent : goal.returns-in-Absent
-returns-in-Absent c =
+pub returns-in-Absent-clause-verdict : goal.returns-in-Absent-clause-verdict
+returns-in-Absent-clause-verdict c =
     let absent = c.in-Absent in
     own_verdict c.args.c.now (Absent absent.trace absent.log) (sym (sym c.outcome.ensures ∙ absent.is)) c.absent.result
     c.absent.ensures

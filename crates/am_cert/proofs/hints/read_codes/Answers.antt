@@ -1,7 +1,8 @@
 use Rattle.std.proofs.Common.{Err, ap, sym, ◌∙◌}
 use Rattle.std.proofs.lemmas.Result.{err_from_is_err_and}
 use Rattle.am_syntax.proofs.Laws.{makes_refused, so_far_done, so_far_fails, so_far_more}
-use Rattle.am_cert.specs.Grammar.{is_number_next, numbers}
+use Rattle.am_syntax.specs.Pieces.{is_number_next}
+use Rattle.am_cert.specs.Grammar.{numbers}
 use Rattle.am_cert.proofs.HintLaws.{code_reads, codes_move}
 use Rattle.am_cert.proofs.hints.read_codes.Goals as goal
 

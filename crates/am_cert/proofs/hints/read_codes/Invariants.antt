@@ -1,6 +1,6 @@
 use Rattle.std.proofs.Common.{◌≡◌, [], length}
-use Rattle.am_syntax.specs.Pieces.{repeat_from}
-use Rattle.am_cert.specs.Grammar.{code, is_number_next}
+use Rattle.am_syntax.specs.Pieces.{is_number_next, repeat_from}
+use Rattle.am_cert.specs.Grammar.{code}
 use Rattle.am_cert.proofs.hints.read_codes.Given as goal
 
 abbrev pub decreases-codes : goal.decreases-codes

@@ -5,7 +5,7 @@ use Rattle.am_syntax.proofs.Laws.{reached_ok}
 use Rattle.am_cert.specs.Texts.{IsShort}
 use Rattle.am_cert.proofs.Bounds.{reached_short}
 use Rattle.am_cert.proofs.CertificateLaws.{answer_follows, draft_shape, heading_law}
-use Rattle.am_cert.proofs.Steps.{reached_behind}
+use Rattle.am_cert.proofs.Steps.{reached_after}
 use Rattle.am_cert.proofs.reading.read_draft.Goals as goal
 
 pub read_answer-requires : goal.read_answer-requires
@@ -22,7 +22,7 @@ invariant_of-result c =
     let mid = c.take_problem.new.text in
     let short : IsShort mid =
     reached_short one mid (reached_ok problem_draft one mid d draft_advances c.in_ok-problem.ensures.read)
-    (reached_short old one (reached_behind old one v heading_law c.in_ok-version.ensures) c.requires) in
+    (reached_short old one (reached_after old one v heading_law c.in_ok-version.ensures) c.requires) in
     record {
       can =
           answer_follows one mid c.read_answer.new.text v d c.in_ok-answer.answer c.in_ok-problem.ensures.read

@@ -2,7 +2,7 @@ use Rattle.std.proofs.Common.{◌≡◌, ◌≤◌, ◌++◌, [], ◌∷◌, ap,
 use Rattle.std.specs.Prelude.{Ok, Err}
 use Rattle.std.proofs.lemmas.Option.{slice_get_within}
 use Rattle.am_chain.specs.Chains.{clause_of}
-use Rattle.am_chain.specs.Checked.{Checked, outcome_of}
+use Rattle.am_chain.specs.Checked.{Checked, chain_outcome}
 use Rattle.am_cert.proofs.Replayed.{chain_fails, derived_count, ends_empty, fault_of, few_steps, one_more}
 use Rattle.am_cert.proofs.refutation.replayed.Goals as goal
 
@@ -34,7 +34,8 @@ returns-in-Err-Fault c =
     let derived = c.loop-k.checker.derived in
     let chain = c.get.result.now in
     let fault = c.in-Err-Fault.fault in
-    let faulty = fault_of (outcome_of c.loop-k.checker chain) c.in-Err-Fault.field-0 fault c.in-Err-Fault.ensures.fault
+    let faulty = fault_of (chain_outcome c.loop-k.checker chain) c.in-Err-Fault.field-0 fault
+    c.in-Err-Fault.ensures.fault
     c.in-Err-Fault.field-0-is in
     let bad : clause_of (given ++ derived) chain ≡ Err fault = rw replayed.given at faulty in
     let so_far = replayed.so_far in

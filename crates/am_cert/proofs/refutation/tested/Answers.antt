@@ -3,7 +3,7 @@ use Rattle.std.specs.Prelude.{None, Some}
 use Rattle.std.proofs.lemmas.List.{length-map}
 use Rattle.std.proofs.lemmas.Option.{slice_get_within}
 use Rattle.am_hint.specs.Hinted.{Hinted, fault_in}
-use Rattle.am_hint.specs.HintReplay.{clauses_of}
+use Rattle.am_hint.specs.HintReplay.{hint_clauses}
 use Rattle.am_hint.specs.Hints.{hint_fault}
 use Rattle.am_hint.specs.declared.hint.Hint.{Hint}
 use Rattle.am_cert.proofs.TestedHints.{few_places, hint_fails, hint_fault_of, hints_end_empty, one_clause, one_passes}
@@ -40,7 +40,7 @@ returns-in-Err-Fault c =
     let faulty =
     hint_fault_of (fault_in c.loop-k.checker hint) c.in-Err-Fault.field-0 fault c.in-Err-Fault.ensures.fault
     c.in-Err-Fault.field-0-is in
-    let bad : hint_fault vars (given ++ clauses_of (take c.loop-k.k hints)) hint ≡ Some fault =
+    let bad : hint_fault vars (given ++ hint_clauses (take c.loop-k.k hints)) hint ≡ Some fault =
     rw (so_far.vars, so_far.given, so_far.added) at faulty in
     rw c.in-Err-Fault.fault-is
     (hint_fails vars given hints c.loop-k.k so_far.passed hint c.get.ensures c.args.j fault bad)
@@ -53,7 +53,7 @@ loop-k-preserved c =
     let hints = c.args.hints.now in
     let hint = c.get.result.now in
     let taken = c.in-Ok.ensures.ok in
-    let passes : hint_fault vars (given ++ clauses_of (take c.loop-k.k hints)) hint ≡ None =
+    let passes : hint_fault vars (given ++ hint_clauses (take c.loop-k.k hints)) hint ≡ None =
     rw (so_far.vars, so_far.given, so_far.added) at taken.0 in
     record {
       vars = ap (λ (k : Hinted). k.vars) taken.1 ∙ so_far.vars;

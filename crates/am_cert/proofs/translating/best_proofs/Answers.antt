@@ -1,6 +1,6 @@
 use Rattle.std.proofs.Common.{subst, sym}
 use Rattle.am_chain.specs.Replay.{Refutes}
-use Rattle.am_query.specs.Formulas.{circuit_of}
+use Rattle.am_query.specs.Formulas.{query_circuit}
 use Rattle.am_query.specs.Queries.{AreCompared}
 use Rattle.am_query.specs.declared.query.Query.TheVariants.{Precise}
 use Rattle.am_query.specs.declared.state.State.{State}
@@ -30,7 +30,7 @@ hints_of-requires-2-clause-refutes c =
     c.args.sound_log.now c.args.best_log.now c.requires.outcome in
     let closest =
     subst (λ (s : State).
-    Refutes (circuit_of (folds d.version) d.problem (Precise c.args.terms.now s.positives s.negatives)).clauses
+    Refutes (query_circuit (folds d.version) d.problem (Precise c.args.terms.now s.positives s.negatives)).clauses
     c.args.best_log.now) (sym c.in_ok-state.ensures) has.closest in
     subst (λ clauses. Refutes clauses c.args.best_log.now) (sym c.in_ok-closer.ensures.clauses) closest
 

@@ -1,5 +1,5 @@
 use Rattle.std.proofs.Common.{◌<◌, ◌++◌, ap, ◌+◌, length, rules, arith}
-use Rattle.am_chain.specs.Chains.{IsFaultOf, clause_of}
+use Rattle.am_chain.specs.Chains.{IsChainFaultOf, clause_of}
 use Rattle.am_chain.proofs.Replaying.{step_taken, step_faulty}
 use Rattle.am_chain.proofs.checker.derive.Goals as goal
 
@@ -11,7 +11,7 @@ returns-in_err-take_step-clause-fault c =
     let steps = c.args.chain.now.steps in
     let lt : c.loop-step.step-index < length steps =
     omega (arith, ap length c.as_slice-step-items.ensures, c.loop-step-test.true) in
-    let fault : IsFaultOf (clause_of clauses c.args.chain.now) e =
+    let fault : IsChainFaultOf (clause_of clauses c.args.chain.now) e =
     step_faulty clauses steps c.as_slice-step-items.result.now c.loop-step.step-index c.loop-step.place
     (record { variable = 0; clause = 0 }) was.0 (clause_of clauses c.args.chain.now) c.as_slice-step-items.ensures
     c.loop-step.invariant.place lt was.2 e (c.in_err-take_step.ensures.fault was.0 was.1) in

@@ -1,7 +1,7 @@
 use Rattle.std.proofs.Common.{◌≡◌, ◌++◌, [], ◌∷◌, ap, ◌∙◌, length, length-append, arith}
 use Rattle.std.specs.Prelude.{Ok, Err}
 use Rattle.am_chain.specs.Chains.{clause_of}
-use Rattle.am_chain.specs.Checked.{Checked, outcome_of}
+use Rattle.am_chain.specs.Checked.{Checked, chain_outcome}
 use Rattle.am_chain.proofs.Replaying.{chain_fails, chain_taken, fault_of, not_refuted}
 use Rattle.am_chain.proofs.refutation.refutes.Goals as goal
 
@@ -10,7 +10,7 @@ returns-in-Err-Fault c =
     let given = c.args.formula.now.clauses in
     let log = c.args.log.now in
     let derived = c.loop-k.checker.derived in
-    let faulty = fault_of (outcome_of c.loop-k.checker c.get-chain.result.now) c.in-Err-Fault.field-0
+    let faulty = fault_of (chain_outcome c.loop-k.checker c.get-chain.result.now) c.in-Err-Fault.field-0
     c.in-Err-Fault.field-0-0 c.in-Err-Fault.ensures.fault c.in-Err-Fault.field-0-is in
     let fails : clause_of (given ++ derived) c.get-chain.result.now ≡ Err c.in-Err-Fault.field-0-0 =
     rw c.loop-k.invariant.0 at faulty in (

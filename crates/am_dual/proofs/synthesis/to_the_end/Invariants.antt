@@ -1,9 +1,9 @@
-use Rattle.am_dual.specs.inside.Underway.{GoesOn, IsRight, trace_so_far, turns_left}
+use Rattle.am_dual.specs.inside.Underway.{GoesOn, IsRightNext, trace_so_far, turns_left}
 use Rattle.am_dual.proofs.synthesis.to_the_end.Given as goal
 
 abbrev pub invariant-loop-next : goal.invariant-loop-next
 invariant-loop-next l = record {
-  right : IsRight l.p l.next;
+  right : IsRightNext l.p l.next;
   kept : GoesOn (trace_so_far l.initial.next) (trace_so_far l.next);
 }
 

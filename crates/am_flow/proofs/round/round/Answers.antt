@@ -2,7 +2,7 @@ use Rattle.std.proofs.Common.{◌≡◌, ◌+◌, ap, arith, drop, length, subst
 use Rattle.am_flow.specs.States.{State}
 use Rattle.am_flow.specs.Stored.{seen_operations}
 use Rattle.am_flow.specs.inside.Rows.{IsState}
-use Rattle.am_flow.specs.inside.Steps.{CanFollow, JoinsStep}
+use Rattle.am_flow.specs.inside.Steps.{CanFollowEdge, JoinsStep}
 use Rattle.am_flow.proofs.RoundLaws.{IsAfter, after_all, after_more, after_state}
 use Rattle.am_flow.proofs.RowLaws.{all_follow}
 use Rattle.std.specs.Prelude.{All}
@@ -21,8 +21,9 @@ join_step-requires-clause-edge c =
     let f = c.args.flow.now in
     let operations = seen_operations c.args.operations.now in
     let all =
-    subst (All (CanFollow f operations)) (sym c.edges-edges.ensures) (all_follow f operations c.requires.operations) in
-    subst (CanFollow f operations) (sym c.edge-item.is)
+    subst (All (CanFollowEdge f operations)) (sym c.edges-edges.ensures) (all_follow f operations c.requires.operations)
+    in
+    subst (CanFollowEdge f operations) (sym c.edge-item.is)
     (all c.edges.edge-index c.edge-item.result c.edges-test.true)
 
 pub edges-preserved : goal.edges-preserved
@@ -35,10 +36,11 @@ edges-preserved c =
     let e = c.edge-item.result in
     let items = c.edges.after.items in
     let new = c.join_step.new.after in
-    let all : All (CanFollow f operations) edges =
-    subst (All (CanFollow f operations)) (sym c.edges-edges.ensures) (all_follow f operations c.requires.operations) in
-    let can : CanFollow f operations e =
-    subst (CanFollow f operations) (sym c.edge-item.is) (all i e c.edges-test.true) in
+    let all : All (CanFollowEdge f operations) edges =
+    subst (All (CanFollowEdge f operations)) (sym c.edges-edges.ensures) (all_follow f operations c.requires.operations)
+    in
+    let can : CanFollowEdge f operations e =
+    subst (CanFollowEdge f operations) (sym c.edge-item.is) (all i e c.edges-test.true) in
     let step : JoinsStep f operations before e items new =
     subst (λ (s : State). JoinsStep f operations before e s new) c.as_mut_slice.ensures.value
     c.in_ok-join_step.ensures in

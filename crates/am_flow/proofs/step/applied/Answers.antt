@@ -2,7 +2,7 @@ use Rattle.std.proofs.Common.{◌≡◌, ◌≤◌, [], ap, arith, flat_map, get
 use Rattle.std.specs.List.{concat}
 use Rattle.am_domain.specs.Question.{results}
 use Rattle.am_problem.proofs.Laws.{rows_are_short}
-use Rattle.am_problem.specs.Examples.{IsRow, all_fields, inputs_of}
+use Rattle.am_problem.specs.Examples.{IsFieldRow, all_fields, inputs_of}
 use Rattle.am_problem.specs.Kinds.{abstraction_of}
 use Rattle.am_problem.specs.Problem.{question_of}
 use Rattle.am_flow.specs.States.{at}
@@ -27,7 +27,7 @@ result-raw-requires-clause-row c =
     let row = c.args.row.now in
     let from = c.args.from.now in
     let cut = inputs_cut c.args.flow.now o from row c.requires.row c.requires.operation in
-    subst (IsRow o.problem) (concat-at row from ∙ sym c.inputs_at-inputs.ensures) cut.0
+    subst (IsFieldRow o.problem) (concat-at row from ∙ sym c.inputs_at-inputs.ensures) cut.0
 
 pub returns : goal.returns
 returns c =

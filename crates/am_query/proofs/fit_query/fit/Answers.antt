@@ -1,7 +1,7 @@
 use Rattle.std.proofs.Common.{◌≡◌, true, subst, arith}
 use Rattle.am_lit.specs.Truth.{Satisfies, value_at}
 use Rattle.am_query.specs.inside.Solved.{IsSolved}
-use Rattle.am_query.specs.Formulas.{circuit_of}
+use Rattle.am_query.specs.Formulas.{query_circuit}
 use Rattle.am_query.specs.QueryLaws.{AreExamples}
 use Rattle.am_query.specs.Witnesses.{chosen_terms}
 use Rattle.am_query.specs.declared.query.Query.TheVariants.{Fit}
@@ -23,7 +23,7 @@ terms_of-requires c =
     let v = value_at c.in-Found.assignment.values in
     let formula = c.in_ok-stated.stated.formula in
     let sat = subst (IsSolved formula c.args.limit) c.in-Found.is c.in_ok-assignment.ensures.answer in
-    let satisfied : Satisfies v (circuit_of true p (Fit pos neg)).clauses =
+    let satisfied : Satisfies v (query_circuit true p (Fit pos neg)).clauses =
     rw c.in_ok-stated.ensures.stated.clauses at sat.1 in
     let examples = c.requires.examples in
     let chosen =
@@ -43,7 +43,7 @@ returns-in-Found-clause-answer c =
     let v = value_at c.in-Found.assignment.values in
     let formula = c.in_ok-stated.stated.formula in
     let sat = subst (IsSolved formula c.args.limit) c.in-Found.is c.in_ok-assignment.ensures.answer in
-    let satisfied : Satisfies v (circuit_of true p (Fit c.args.pos.now c.args.neg.now)).clauses =
+    let satisfied : Satisfies v (query_circuit true p (Fit c.args.pos.now c.args.neg.now)).clauses =
     rw c.in_ok-stated.ensures.stated.clauses at sat.1 in
     let examples : AreExamples p c.args.pos.now c.args.neg.now = record {
       formed = c.keeps_limits.ensures.formed;
@@ -72,7 +72,7 @@ returns-in-Refuted-clause-answer c =
       negatives_stored = c.requires.examples.negatives;
     } in (
       unsatisfied_fit_has_none true p c.args.pos.now c.args.neg.now examples
-          (c.refutations_are_sound.ensures (circuit_of true p q).clauses log refuted.refutes),
+          (c.refutations_are_sound.ensures (query_circuit true p q).clauses log refuted.refutes),
       refuted,
     )
 

@@ -1,6 +1,6 @@
 use Rattle.std.proofs.Common.{◌≡◌, true}
 use Rattle.am_lit.specs.Truth.{Satisfies, value_at}
-use Rattle.am_query.specs.Formulas.{circuit_of}
+use Rattle.am_query.specs.Formulas.{query_circuit}
 use Rattle.am_query.specs.Witnesses.{chosen_terms}
 use Rattle.am_query.specs.declared.query.Query.TheVariants.{Precise}
 use Rattle.am_query.proofs.Answering.{refuted_by, spent_by}
@@ -12,7 +12,7 @@ terms_of-requires c =
     let p = c.args.p.now in
     let v = value_at c.in-Found.a.values in
     let answer = rw c.in-Found.is at c.in_ok-a.ensures.answer in
-    let satisfied : Satisfies v (circuit_of true p (Precise c.args.t.now c.args.pos.now c.args.neg.now)).clauses =
+    let satisfied : Satisfies v (query_circuit true p (Precise c.args.t.now c.args.pos.now c.args.neg.now)).clauses =
     rw c.in_ok-stated.ensures.stated.clauses at answer.1 in
     rw (
       c.grammar.ensures.rules,
@@ -29,7 +29,7 @@ returns-in-Found-clause-answer c =
     let p = c.args.p.now in
     let v = value_at c.in-Found.a.values in
     let answer = rw c.in-Found.is at c.in_ok-a.ensures.answer in
-    let satisfied : Satisfies v (circuit_of true p (Precise c.args.t.now c.args.pos.now c.args.neg.now)).clauses =
+    let satisfied : Satisfies v (query_circuit true p (Precise c.args.t.now c.args.pos.now c.args.neg.now)).clauses =
     rw c.in_ok-stated.ensures.stated.clauses at answer.1 in
     let closer = read_closer p c.keeps_limits.ensures.formed c.args.t.now c.args.pos.now c.args.neg.now
     c.requires.compared v satisfied _

@@ -2,7 +2,7 @@ use Rattle.std.proofs.Common.{◌≡◌, length, ap, ◌∙◌, arith}
 use Rattle.std.proofs.lemmas.List.FromFn.{length-range_with_len}
 use Rattle.am_gate.specs.Circuit.{Net}
 use Rattle.am_slot.specs.Template.{selectors_of}
-use Rattle.am_query.specs.Formulas.{circuit_of, encoding_of}
+use Rattle.am_query.specs.Formulas.{encoding_of, query_circuit}
 use Rattle.am_query.specs.declared.query.Query.TheVariants.{Fit, Precise}
 use Rattle.am_query.proofs.PreciseAnswers.{precise_stated}
 use Rattle.am_query.proofs.precision.stated_precise.Goals as goal
@@ -13,7 +13,8 @@ returns-clause-stated c =
     let fit = rw c.in_ok-statements.ensures at c.in_ok-template.ensures in
     let closer = rw c.in_ok-statements.ensures at c.in_ok-inputs.ensures in
     let follows = rw c.in_ok-circuit.ensures at fit.ok in
-    let made : c.closer.new.circuit ≡ circuit_of c.args.folding p (Precise c.args.t.now c.args.pos.now c.args.neg.now) =
+    let made : c.closer.new.circuit ≡ query_circuit c.args.folding p
+    (Precise c.args.t.now c.args.pos.now c.args.neg.now) =
     (precise_stated p c.args.t.now c.args.pos.now c.args.neg.now follows closer.stated).circuit in
     let of = c.of.ensures in
     let selectors : length c.in_ok-base.base ≡ selectors_of (encoding_of p) =
@@ -36,6 +37,6 @@ returns-clause-inputs c =
     let fit = rw c.in_ok-statements.ensures at c.in_ok-template.ensures in
     let closer = rw c.in_ok-statements.ensures at c.in_ok-inputs.ensures in
     let follows = rw c.in_ok-circuit.ensures at fit.ok in
-    let made : c.fit.new.circuit.vars ≡ (circuit_of c.args.folding p (Fit c.args.pos.now c.args.neg.now)).vars =
+    let made : c.fit.new.circuit.vars ≡ (query_circuit c.args.folding p (Fit c.args.pos.now c.args.neg.now)).vars =
     ap (λ (n : Net). n.vars) follows.circuit in
     rw (← made, c.of.ensures.vars) closer.words

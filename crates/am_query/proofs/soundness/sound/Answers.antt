@@ -1,6 +1,6 @@
 use Rattle.std.proofs.Common.{true}
 use Rattle.am_lit.specs.Truth.{Satisfies, value_at}
-use Rattle.am_query.specs.Formulas.{circuit_of}
+use Rattle.am_query.specs.Formulas.{query_circuit}
 use Rattle.am_query.specs.declared.query.Query.TheVariants.{Sound}
 use Rattle.am_query.proofs.Answering.{refuted_by, spent_by}
 use Rattle.am_query.proofs.SoundAnswers.{read_example, refuted_is_sound}
@@ -12,7 +12,7 @@ returns-in-Found-clause-answer c =
     let t = c.args.t.now in
     let answer = rw c.in-Found.is at c.in_ok-a.ensures.answer in
     let v = value_at c.in-Found.a.values in
-    let satisfied : Satisfies v (circuit_of true p (Sound t)).clauses =
+    let satisfied : Satisfies v (query_circuit true p (Sound t)).clauses =
     rw c.in_ok-stated.ensures.stated.clauses at answer.1 in
     read_example p c.keeps_limits.ensures.formed t c.requires.transformer v satisfied _
     c.in_ok-stated.inputs c.in_ok-stated.ensures.inputs

@@ -1,7 +1,7 @@
 use Rattle.std.proofs.Common.{◌≡◌, ap, ◌∙◌, arith}
 use Rattle.am_gate.specs.Circuit.{Net}
 use Rattle.am_gate.proofs.Laws.{HasInputs-start}
-use Rattle.am_query.specs.Formulas.{circuit_of}
+use Rattle.am_query.specs.Formulas.{query_circuit}
 use Rattle.am_query.specs.declared.query.Query.TheVariants.{Sound}
 use Rattle.am_query.proofs.soundness.stated_sound.Goals as goal
 
@@ -12,7 +12,8 @@ pub returns-clause-stated : goal.returns-clause-stated
 returns-clause-stated c =
     let unsound = c.in_ok-inputs.ensures in
     let follows = rw (c.in_ok-statements.ensures, c.in_ok-circuit.ensures) at unsound.stated in
-    let made : c.unsound.new.circuit ≡ circuit_of c.args.folding c.args.p.now (Sound c.args.t.now) = follows.circuit in
+    let made : c.unsound.new.circuit ≡ query_circuit c.args.folding c.args.p.now (Sound c.args.t.now) = follows.circuit
+    in
     let of = c.of.ensures in
     record {
       clauses = of.clauses ∙ ap (λ (n : Net). n.clauses) made;

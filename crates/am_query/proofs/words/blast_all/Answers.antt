@@ -14,15 +14,15 @@ loop-term-preserved c =
     let inv = c.loop-term.invariant in
     let i = c.loop-term.term-index in
     let terms = c.args.terms.now in
-    let word = c.in_ok-word.ensures in
+    let word = c.in_ok-word.ensures.ok in
     record {
       follows = λ rest end h. rw (c.in_ok-push.ensures.ok, append_assoc)
           (inv.follows (c.in_ok-word.word ∷ rest) end
           (Follows-in_turn_at (blasted c.args.w c.args.fields.now) i c.term-item.result terms _ _ _ _ _
-          c.loop-term-test.true c.term-item.is word.circuit h));
+          c.loop-term-test.true c.term-item.is word.follows h));
       words = rw c.in_ok-push.ensures.ok
           (AreWordsIn-snoc c.args.w i _ c.loop-term.words c.in_ok-word.word
-          (AreWordsIn-later c.args.w i _ _ c.loop-term.words word.grows.not_less inv.words) word.word);
+          (AreWordsIn-later c.args.w i _ _ c.loop-term.words word.grows.not_less inv.words) word.given);
       grows = Grows-trans _ inv.grows word.grows
           (omega (
             arith,

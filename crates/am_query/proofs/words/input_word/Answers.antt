@@ -16,7 +16,7 @@ loop-preserved c =
     let i = c.loop.counter in
     let here : i < c.args.w = omega (arith, c.loop-test.true, c.bits-end.ensures.value) in
     let step : c.args.w - i ≡ suc (c.args.w - (i + 1)) = omega (arith, here) in
-    let made = Follows-input c.in_ok-l.ensures.ok in
+    let made = Follows-input c.in_ok-l.ensures.ok.follows in
     let variable : c.variable.result ≡ c.loop.circuit.vars = omega (arith, c.variable.ensures, made.0) in
     let pushed : c.push.new.self ≡ c.loop.base ++ c.loop.circuit.vars ∷ [] =
     c.in_ok-push.ensures.ok ∙ ap (λ x. c.loop.base ++ x ∷ []) variable in
@@ -24,12 +24,12 @@ loop-preserved c =
       place = omega (arith, here);
       follows = λ rest end h. rw (c.in_ok-push-2.ensures.ok, append_assoc)
           (inv.follows (c.in_ok-l.l ∷ rest) end
-          (rw step (Follows-turn (replicate (c.args.w - (i + 1)) (ask Input)) c.in_ok-l.ensures.ok h)));
+          (rw step (Follows-turn (replicate (c.args.w - (i + 1)) (ask Input)) c.in_ok-l.ensures.ok.follows h)));
       word = rw c.in_ok-push-2.ensures.ok
           (IsWord-snoc i _ c.loop.word c.in_ok-l.l
-          (IsWord-later i _ _ c.loop.word c.in_ok-l.ensures.grows.not_less inv.word) c.in_ok-l.ensures.inside);
-      grows = Grows-trans _ inv.grows c.in_ok-l.ensures.grows (omega arith);
-      inputs = rw pushed (HasInputs-input inv.inputs c.in_ok-l.ensures.ok);
+          (IsWord-later i _ _ c.loop.word c.in_ok-l.ensures.ok.grows.not_less inv.word) c.in_ok-l.ensures.ok.given);
+      grows = Grows-trans _ inv.grows c.in_ok-l.ensures.ok.grows (omega arith);
+      inputs = rw pushed (HasInputs-input inv.inputs c.in_ok-l.ensures.ok.follows);
       count = ap length pushed ∙ length-append c.loop.base (c.loop.circuit.vars ∷ []) ∙ omega (arith, inv.count);
     }
 

@@ -10,9 +10,9 @@ loop-preserved c =
     omega (arith, c.loop-test.true) in
     record {
       place = omega (arith, c.loop-test.true);
-      follows = λ end h. inv.follows end (rw step (Follows-one_input _ _ _ _ _ c.in_ok-input.ensures.ok h));
-      vars = omega (arith, (Follows-input c.in_ok-input.ensures.ok).1, inv.vars);
-      grows = Grows-trans _ inv.grows c.in_ok-input.ensures.grows (omega arith);
+      follows = λ end h. inv.follows end (rw step (Follows-one_input _ _ _ _ _ c.in_ok-input.ensures.ok.follows h));
+      vars = omega (arith, (Follows-input c.in_ok-input.ensures.ok.follows).1, inv.vars);
+      grows = Grows-trans _ inv.grows c.in_ok-input.ensures.ok.grows (omega arith);
       begins = Begins-trans inv.begins c.in_ok-input.ensures.begins;
     }
 

@@ -9,7 +9,8 @@ use Rattle.am_syntax.specs.Readers.{done, onward}
 use Rattle.am_syntax.specs.Spelling.{scope_of}
 use Rattle.am_syntax.specs.Terms.{term_at}
 use Rattle.am_syntax.proofs.Loops.{makes_err, makes_refused, times_done, times_fails, times_more}
-use Rattle.am_syntax.proofs.TermSteps.{argument, head_is_one, sum_by-one, behind_op, close_node, term_behind, term_leaf}
+use Rattle.am_syntax.proofs.TermSteps.{argument, head_is_one, sum_by-one, after_operator, close_node, term_after}
+use Rattle.am_syntax.proofs.TermSteps.{term_leaf}
 use Rattle.am_syntax.proofs.TermSteps.{term_node, term_refused}
 use Rattle.am_syntax.proofs.terms.+read_node.Goals as goal
 
@@ -29,7 +30,8 @@ returns-in_err-op-in-None-clause-term t c =
     c.from_residual-in_err-op-in-None.result (p.1 ∙ ap Err p.2)
     (term_node (scope_of c.args.w c.args.limits.now) c.args.inside c.args.depth c.args.room.now c.args.text.now
     c.take_head.new.text deep (c.in_ok-head.ensures.value ∙ ap (λ h. Ok (h, c.take_head.new.text)) c.in-None.is)
-    ∙ ap (onward (behind_op (argument (scope_of c.args.w c.args.limits.now) (c.args.depth - 1) (c.args.room.now - 1))))
+    ∙ ap (onward (after_operator (argument (scope_of c.args.w c.args.limits.now) (c.args.depth - 1)
+    (c.args.room.now - 1))))
     c.in_err-op-in-None.ensures)
 
 pub arguments-init : goal.arguments-init
@@ -52,7 +54,7 @@ returns-in_err-read_node-in-None-clause-term t c =
     makes_err (λ t. t) c.args.text.now left (term_at scope c.args.inside c.args.depth c.args.room.now)
     c.in_err-read_node-in-None.field-0.0 c.from_residual-in_err-read_node-in-None.result (p.1 ∙ ap Err p.2)
     (λ cause is.
-    term_behind scope c.args.inside c.args.depth c.args.room.now c.args.text.now c.take_head.new.text
+    term_after scope c.args.inside c.args.depth c.args.room.now c.args.text.now c.take_head.new.text
     c.in_ok-head.head c.in_ok-head.ensures.value c.in-None.is deep op behind c.in_ok-op-in-None.ensures n
     c.arity-end.ensures.value
     ∙ ap (onward (close_node op)) (times_fails item n c.arguments.counter c.arguments.arguments c.arguments.text
@@ -99,7 +101,7 @@ returns-in_err-take_closing-in-None-clause-term t c =
     c.arguments.invariant.read in
     makes_refused (λ t. t) c.args.text.now c.take_closing.new.text _
     e c.from_residual-in_err-take_closing-in-None.result (p.1 ∙ ap Err p.2)
-    (term_behind (scope_of c.args.w c.args.limits.now) c.args.inside c.args.depth c.args.room.now c.args.text.now
+    (term_after (scope_of c.args.w c.args.limits.now) c.args.inside c.args.depth c.args.room.now c.args.text.now
     c.take_head.new.text c.in_ok-head.head c.in_ok-head.ensures.value c.in-None.is deep op c.take_operator.new.text
     c.in_ok-op-in-None.ensures n c.arity-end.ensures.value
     ∙ ap (onward (close_node op)) all
@@ -128,7 +130,7 @@ returns-in_ok-take_closing-in-None-clause-term t c =
     let all =
     times_done item n c.arguments.counter c.arguments.arguments c.arguments.text _ c.arguments-test.false
     c.arguments.invariant.read in
-    term_behind (scope_of c.args.w c.args.limits.now) c.args.inside c.args.depth c.args.room.now c.args.text.now
+    term_after (scope_of c.args.w c.args.limits.now) c.args.inside c.args.depth c.args.room.now c.args.text.now
     c.take_head.new.text c.in_ok-head.head c.in_ok-head.ensures.value c.in-None.is deep op c.take_operator.new.text
     c.in_ok-op-in-None.ensures n c.arity-end.ensures.value
     ∙ ap (onward (close_node op)) all

@@ -1,13 +1,13 @@
 use Rattle.std.proofs.Common.{◌≡◌, ◌≤◌, take, length, vec_len, vec_capacity}
 use Rattle.am_trail.specs.Trails.{literals}
 use Rattle.am_trail.specs.inside.Places.{IsPlaced, variables}
-use Rattle.am_trail.specs.inside.Values.{AreValues}
+use Rattle.am_trail.specs.inside.Values.{AreLiteralValues}
 use Rattle.am_trail.proofs.places.keep_first.Given as goal
 
 abbrev pub invariant-loop-entries : goal.invariant-loop-entries
 invariant-loop-entries l = record {
   placed : IsPlaced (variables l.entries.items) l.places.items;
-  values : AreValues (literals l.entries.items) l.values.items;
+  values : AreLiteralValues (literals l.entries.items) l.values.items;
   entries : l.entries.items ≡ take (length l.entries.items) l.initial.entries.items;
   least : l.len ≤ length l.entries.items;
   most : length l.entries.items ≤ length l.initial.entries.items;

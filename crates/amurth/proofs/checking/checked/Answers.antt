@@ -1,5 +1,5 @@
 use Rattle.std.proofs.Common.{◌≡◌, Err, inr, subst}
-use Rattle.am_cert.specs.Texts.{Reads, certificate_of}
+use Rattle.am_cert.specs.Texts.{ReadsAsCertificate, certificate_of}
 use Rattle.am_problem.specs.Texts.{IfRefused}
 use Rattle.am_syntax.specs.declared.refusal.ReadError.{ReadError}
 use Rattle.amurth.proofs.Dues.{answered}
@@ -10,7 +10,7 @@ use Rattle.amurth.proofs.checking.checked.Goals as goal
 pub returns-in-Ok : goal.returns-in-Ok
 returns-in-Ok c =
     check_due c.args.input.now c.judged.result
-    (answered Reads certificate_of IsJudged c.args.input.now c.in-Ok.certificate
+    (answered ReadsAsCertificate certificate_of IsJudged c.args.input.now c.in-Ok.certificate
     (record { short = c.requires; reads = c.in-Ok.ensures.found }) c.judged.result c.judged.ensures)
 
 pub returns-in-Err-Refused : goal.returns-in-Err-Refused

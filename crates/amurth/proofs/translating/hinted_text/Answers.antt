@@ -1,7 +1,7 @@
 use Rattle.std.proofs.Common.{◌≡◌, rules, subst, sym}
 use Rattle.am_cert.proofs.Laws.{printed_certificates_read}
 use Rattle.am_cert.specs.Printing.{certificate_text}
-use Rattle.am_cert.specs.Texts.{Reads}
+use Rattle.am_cert.specs.Texts.{ReadsAsCertificate}
 use Rattle.amurth.proofs.translating.hinted_text.Goals as goal
 
 pub returns : goal.returns
@@ -12,5 +12,6 @@ returns c =
       hinted = hinted;
       same = c.in_ok-hinted.ensures;
       wrote = wrote;
-      reads = subst (λ text. Reads text hinted) (sym wrote) (printed_certificates_read hinted c.keeps_limits.ensures);
+      reads = subst (λ text. ReadsAsCertificate text hinted) (sym wrote)
+          (printed_certificates_read hinted c.keeps_limits.ensures);
     }

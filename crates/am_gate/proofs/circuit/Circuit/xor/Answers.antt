@@ -1,6 +1,9 @@
 use Rattle.std.proofs.Common.{sym, ◌∙◌, ◌*◌}
 use Rattle.am_gate.specs.Circuit.{Event.Xor, after}
+use Rattle.am_gate.specs.Build.{place_of}
 use Rattle.am_gate.proofs.Building.{Follows-ask, Follows-folded}
+use Rattle.am_gate.proofs.Giving.{GivesOrKeeps-Follows}
+use Rattle.am_gate.proofs.Making.{Makes-xor}
 use Rattle.am_gate.proofs.Normals.{IsCircuit-after, two}
 use Rattle.am_gate.proofs.Rows.{rows_of-xor}
 use Rattle.am_gate.proofs.circuit.Circuit.xor.Goals as goal
@@ -29,10 +32,12 @@ invariant_of-self-2 c =
     (two c.self.inside.vars c.args.a c.args.b (rw (← c.self.view_is) at c.requires.first)
     (rw (← c.self.view_is) at c.requires.second)))
 
-pub returns-clause-ok : goal.returns-clause-ok
+pub returns : goal.returns
 unfolding after
-returns-clause-ok c =
-    rw (
+returns c =
+    GivesOrKeeps-Follows
+    (Makes-xor c.args.a c.args.b (place_of c.args.self.now) c.requires.first c.requires.second)
+    (rw (
       c.in_ok-add_all.ensures.ok,
       c.in_order.ensures,
       c.in_order-2.ensures,
@@ -51,9 +56,11 @@ returns-clause-ok c =
     (Follows-ask
     (record { vars = c.self.inside.vars; clauses = c.self.inside.clauses; folding = c.self.inside.folding })
     (Xor c.args.a c.args.b)
-    (rw (← c.self.view_is, c.folded_xor.ensures) at (sym c.if_folding.ensures ∙ c.in_default.is)))
+    (rw (← c.self.view_is, c.folded_xor.ensures) at (sym c.if_folding.ensures ∙ c.in_default.is))))
 
-pub returns-in-Some-clause-ok : goal.returns-in-Some-clause-ok
-returns-in-Some-clause-ok c =
-    Follows-folded c.args.self.now (Xor c.args.a c.args.b) c.in-Some.l
-    (rw c.folded_xor.ensures at (sym c.if_folding.ensures ∙ c.in-Some.is))
+pub returns-in-Some : goal.returns-in-Some
+returns-in-Some c =
+    GivesOrKeeps-Follows
+    (Makes-xor c.args.a c.args.b (place_of c.args.self.now) c.requires.first c.requires.second)
+    (Follows-folded c.args.self.now (Xor c.args.a c.args.b) c.in-Some.l
+    (rw c.folded_xor.ensures at (sym c.if_folding.ensures ∙ c.in-Some.is)))

@@ -3,7 +3,7 @@ use Rattle.std.proofs.lemmas.List.Elements.{All-append, All-push}
 use Rattle.am_lit.specs.Clause.{IsNormal}
 use Rattle.am_lit.specs.Truth.{Implies}
 use Rattle.am_chain.proofs.Laws.{implied_by_given}
-use Rattle.am_hint.specs.inside.Rows.{Row}
+use Rattle.am_hint.specs.inside.Rows.{TrueRow}
 use Rattle.am_hint.proofs.NormalTests.{normal_tests_are_right}
 use Rattle.am_hint.proofs.Sound.{hints_are_sound, passes_where}
 use Rattle.am_hint.proofs.checker.HintChecker.add.Goals as goal
@@ -17,13 +17,13 @@ deny-requires-clause-below c =
 pub propagate-requires-clause-normal : goal.propagate-requires-clause-normal
 propagate-requires-clause-normal c =
     let f = c.self.inside.formula.now in
-    let cleared = ap (λ (r : Row). r.vars) c.clear-2.ensures ∙ c.self.invariant.0 in
+    let cleared = ap (λ (r : TrueRow). r.vars) c.clear-2.ensures ∙ c.self.invariant.0 in
     let vars : c.deny.new.row.vars ≡ f.vars = c.deny.ensures.vars ∙ cleared in
     rw vars (All-append (IsNormal f.vars) f.clauses c.self.inside.added f.normal c.self.invariant.1)
 
 pub invariant_of-self-in_err-push : goal.invariant_of-self-in_err-push
 invariant_of-self-in_err-push c =
-    let cleared = ap (λ (r : Row). r.vars) c.clear-2.ensures ∙ c.self.invariant.0 in
+    let cleared = ap (λ (r : TrueRow). r.vars) c.clear-2.ensures ∙ c.self.invariant.0 in
     let vars = c.propagate.ensures.vars ∙ c.deny.ensures.vars ∙ cleared in
     rw c.in_err-push.ensures.err (vars, c.self.invariant.1, c.self.invariant.2)
 
@@ -32,7 +32,7 @@ invariant_of-self-2 c =
     let f = c.self.inside.formula.now in
     let added = c.self.inside.added in
     let hint = c.args.hint.now in
-    let cleared = ap (λ (r : Row). r.vars) c.clear-2.ensures ∙ c.self.invariant.0 in
+    let cleared = ap (λ (r : TrueRow). r.vars) c.clear-2.ensures ∙ c.self.invariant.0 in
     let vars = c.propagate.ensures.vars ∙ c.deny.ensures.vars ∙ cleared in
     let codes = c.as_slice-codes.ensures in
     let test = rw codes at (sym c.is_normal.ensures ∙ c.if-not-is_normal.false) in

@@ -1,5 +1,5 @@
-use Rattle.am_query.proofs.Calls.{Gives-forced}
+use Rattle.am_query.proofs.Calls.{GivesStep-forced}
 use Rattle.am_query.proofs.statements.Statements.admit.Goals as goal
 
 pub returns : goal.returns
-returns c = Gives-forced c.in_ok-l.ensures c.in_ok-force.ensures.ok c.in_ok-force.ensures.grows
+returns c = GivesStep-forced c.in_ok-l.ensures c.in_ok-force.ensures.ok c.in_ok-force.ensures.grows

@@ -31,10 +31,9 @@ returns c =
     let formed = subst IsFormed c.self.view_is c.keeps_limits.ensures.formed in
     let same : c.as_slice-2.result.now ≡ map (constant p.width) c.args.row.now =
     rw (c.width.ensures, c.as_slice.ensures.value) at (c.as_slice-2.ensures ∙ c.in_ok-fields.ensures) in
-    let made = c.in_ok-result.ensures in
-    let outputs = rw c.requires.template at made.outputs in
+    let made = rw (c.requires.template, same) at c.in_ok-result.ensures.ok in
     record {
-      follows = rw (c.requires.template, same) at made.circuit;
-      given = record { many = outputs.many ∙ formed.start_per_field; each = outputs.each };
-      grows = rw c.requires.template at made.grows;
+      follows = made.follows;
+      given = record { many = made.given.many ∙ formed.start_per_field; each = made.given.each };
+      grows = made.grows;
     }

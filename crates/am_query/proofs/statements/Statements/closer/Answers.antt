@@ -1,7 +1,7 @@
 use Rattle.std.proofs.Common.{◌≡◌, subst, arith}
 use Rattle.am_problem.specs.Examples.{all_fields}
 use Rattle.am_problem.specs.Limits.{IsProblem}
-use Rattle.am_query.proofs.CloserTransformers.{closer_inputs, closer_stated, inputs_stand, room_behind}
+use Rattle.am_query.proofs.CloserTransformers.{closer_inputs, closer_stated, inputs_stand, room_left_after}
 use Rattle.am_query.proofs.CloserTransformers.{room_for_comparing}
 use Rattle.am_query.proofs.statements.Statements.closer.Goals as goal
 
@@ -38,5 +38,5 @@ returns c =
           c.in_ok-word.ensures.inputs;
       count = omega (arith, one, two);
       vars = omega (arith, first.grows.not_less, second.grows.not_less, third.grows.not_less);
-      room = room_behind p is t of _ _ _ f w room first second _ third;
+      room = room_left_after p is t of _ _ _ f w room first second _ third;
     }

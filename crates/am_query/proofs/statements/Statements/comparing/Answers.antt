@@ -29,12 +29,9 @@ admit-requires-clause-tuple c =
 pub returns : goal.returns
 returns c =
     let p = c.args.self.now in
-    let block = rw c.requires.template at c.in_ok-closer.ensures.circuit in
-    let outputs = rw c.requires.template at c.in_ok-closer.ensures.outputs in
-    let grows = rw c.requires.template at c.in_ok-closer.ensures.grows in
+    let block = rw c.requires.template at c.in_ok-closer.ensures.ok in
     let three = rw (c.width.ensures, c.as_slice.ensures) at c.in_ok-result.ensures in
     let four = rw c.in_ok-admitted.ensures at c.in_ok-admit.ensures in
     let five = rw c.in_ok-excluded.ensures at c.in_ok-exclude.ensures in
     Gives-comparing p c.args.t.now c.args.fields.now {P = AreOutputs (encoding_of p)} c.args.word.now
-    c.in_ok-valid_inputs.ensures
-    (record { follows = block; given = outputs; grows = grows }) three four five
+    c.in_ok-valid_inputs.ensures block three four five

@@ -1,6 +1,6 @@
-use Rattle.am_query.proofs.Calls.{Gives-refused}
+use Rattle.am_query.proofs.Calls.{GivesStep-refused}
 use Rattle.am_query.proofs.statements.Statements.exclude.Goals as goal
 
 pub returns : goal.returns
 returns c =
-    Gives-refused c.in_ok-l.ensures (rw c.opposite.ensures at c.in_ok-force.ensures.ok) c.in_ok-force.ensures.grows
+    GivesStep-refused c.in_ok-l.ensures (rw c.opposite.ensures at c.in_ok-force.ensures.ok) c.in_ok-force.ensures.grows

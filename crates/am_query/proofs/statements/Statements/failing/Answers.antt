@@ -28,13 +28,7 @@ pub returns : goal.returns
 returns c =
     let p = c.args.self.now in
     let operation : c.operation.result.now ≡ p.operation = rw c.self.view_is at c.operation.ensures in
-    let value = c.in_ok-value.ensures in
+    let value = rw (c.width.ensures, operation) at c.in_ok-value.ensures.ok in
     let five = rw (c.width-2.ensures, c.as_slice.ensures) at c.in_ok-result.ensures in
     Gives-failing p c.args.t.now c.args.fields.now c.args.words.now c.in_ok-valid_inputs.ensures c.in_ok-members.ensures
-    c.in_ok-assumed.ensures
-    (record {
-      follows = rw (c.width.ensures, operation) at value.circuit;
-      given = rw c.width.ensures at value.word;
-      grows = rw (c.width.ensures, operation) at value.grows;
-    })
-    five c.in_ok-exclude.ensures
+    c.in_ok-assumed.ensures value five c.in_ok-exclude.ensures

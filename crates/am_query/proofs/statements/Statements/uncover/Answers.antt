@@ -1,7 +1,7 @@
 use Rattle.std.proofs.Common.{◌≡◌, arith}
 use Rattle.am_blast.specs.Words.{constant}
 use Rattle.am_blast.proofs.Laws.{IsWord-constant}
-use Rattle.am_query.proofs.Calls.{Gives-uncovered}
+use Rattle.am_query.proofs.Calls.{GivesStep-uncovered}
 use Rattle.am_query.proofs.statements.Statements.uncover.Goals as goal
 
 pub exclude-requires-clause-word : goal.exclude-requires-clause-word
@@ -14,4 +14,4 @@ pub returns : goal.returns
 returns c =
     let p = c.args.self.now in
     let word : c.in_ok-word.word ≡ constant p.width c.args.e.now.word = rw c.width.ensures at c.in_ok-word.ensures in
-    Gives-uncovered p c.args.e.now c.in_ok-result.ensures (rw word at c.in_ok-exclude.ensures) (omega arith)
+    GivesStep-uncovered p c.args.e.now c.in_ok-result.ensures (rw word at c.in_ok-exclude.ensures) (omega arith)

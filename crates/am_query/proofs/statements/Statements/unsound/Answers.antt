@@ -1,7 +1,7 @@
 use Rattle.std.proofs.Common.{◌≡◌, arith}
 use Rattle.am_problem.specs.Examples.{all_fields}
 use Rattle.am_problem.specs.Limits.{IsProblem}
-use Rattle.am_query.proofs.Unsound.{fields_inside, fields_stand, room_behind, room_for_failing, unsound_inputs}
+use Rattle.am_query.proofs.Unsound.{fields_inside, fields_stand, room_left_after, room_for_failing, unsound_inputs}
 use Rattle.am_query.proofs.Unsound.{unsound_stated, words_stand}
 use Rattle.am_query.proofs.Tuples.{AreWordsIn-later}
 use Rattle.am_query.proofs.statements.Statements.unsound.Goals as goal
@@ -45,5 +45,5 @@ returns c =
       };
       inputs = unsound_inputs p is t of _ _ _ f w fresh first second _ third _ c.in_ok-words.ensures.inputs;
       count = omega (arith, one, two);
-      room = room_behind p is t of _ _ _ f w fresh first second _ third;
+      room = room_left_after p is t of _ _ _ f w fresh first second _ third;
     }

@@ -1,7 +1,7 @@
 use Rattle.std.proofs.Common.{◌≡◌, suc, ◌+◌, ◌-◌, ◌*◌, ◌<◌, take, drop, arith}
 use Rattle.am_gate.proofs.Laws.{Grows-trans}
 use Rattle.am_problem.specs.Kinds.{fields_of}
-use Rattle.am_query.proofs.Calls.{Follows-split, Follows-split_end, Gives-forced}
+use Rattle.am_query.proofs.Calls.{Follows-split, Follows-split_end, GivesStep-forced}
 use Rattle.am_query.proofs.Tuples.{AreWordsIn-later, other-words}
 use Rattle.am_query.proofs.statements.Statements.valid_inputs.Goals as goal
 
@@ -21,7 +21,7 @@ loop-preserved c =
     let front : c.split_at.result.0.now ≡ take k row = rw count at c.split_at.ensures.front in
     let back : c.split_at.result.1.now ≡ drop k row = rw count at c.split_at.ensures.back in
     let tested = rw (c.width.ensures, c.valid.ensures.term, front) at c.in_ok-l.ensures in
-    let stated = Gives-forced tested c.in_ok-force.ensures.ok c.in_ok-force.ensures.grows in
+    let stated = GivesStep-forced tested c.in_ok-force.ensures.ok c.in_ok-force.ensures.grows in
     record {
       place = omega (arith, here);
       follows = λ last h. inv.follows last (rw step (Follows-split _ k m row stated.follows (rw back at h)));

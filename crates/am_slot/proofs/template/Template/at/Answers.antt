@@ -1,6 +1,6 @@
 use Rattle.std.proofs.Common.{length}
 use Rattle.am_gate.specs.Build.{place_of}
-use Rattle.am_gate.proofs.Laws.{Makes-exactly, Means-Follows}
+use Rattle.am_gate.proofs.Laws.{Makes-exactly}
 use Rattle.am_slot.proofs.Fitting.{are_fit}
 use Rattle.am_slot.proofs.Whole.{block_makes, block_reads}
 use Rattle.am_slot.proofs.template.Template.at.Goals as goal
@@ -9,48 +9,16 @@ pub words-requires-clause-fit : goal.words-requires-clause-fit
 words-requires-clause-fit c =
     are_fit _ c.self.invariant.0 (length c.args.fields.now) (rw (← c.self.view_is) at c.requires.over)
 
-pub returns-in_err-words-clause-scoped : goal.returns-in_err-words-clause-scoped
-returns-in_err-words-clause-scoped c =
-    let is = rw c.self.view_is at c.self.invariant.0 in
-    (block_makes c.args.self.now is c.args.fields.now c.requires.over (place_of c.args.circuit.now) c.requires.selectors
-    c.requires.fields).scoped
-
-pub returns-in_err-words-clause-gates : goal.returns-in_err-words-clause-gates
-returns-in_err-words-clause-gates c =
-    let is = rw c.self.view_is at c.self.invariant.0 in
-    (block_makes c.args.self.now is c.args.fields.now c.requires.over (place_of c.args.circuit.now) c.requires.selectors
-    c.requires.fields).gates
-
-pub returns-in_err-outputs-clause-scoped : goal.returns-in_err-outputs-clause-scoped
-returns-in_err-outputs-clause-scoped c =
-    let is = rw c.self.view_is at c.self.invariant.0 in
-    (block_makes c.args.self.now is c.args.fields.now c.requires.over (place_of c.args.circuit.now) c.requires.selectors
-    c.requires.fields).scoped
-
-pub returns-in_err-outputs-clause-gates : goal.returns-in_err-outputs-clause-gates
-returns-in_err-outputs-clause-gates c =
-    let is = rw c.self.view_is at c.self.invariant.0 in
-    (block_makes c.args.self.now is c.args.fields.now c.requires.over (place_of c.args.circuit.now) c.requires.selectors
-    c.requires.fields).gates
-
-pub returns-clause-scoped : goal.returns-clause-scoped
-returns-clause-scoped c =
-    let is = rw c.self.view_is at c.self.invariant.0 in
-    (block_makes c.args.self.now is c.args.fields.now c.requires.over (place_of c.args.circuit.now) c.requires.selectors
-    c.requires.fields).scoped
-
-pub returns-clause-gates : goal.returns-clause-gates
-returns-clause-gates c =
-    let is = rw c.self.view_is at c.self.invariant.0 in
-    (block_makes c.args.self.now is c.args.fields.now c.requires.over (place_of c.args.circuit.now) c.requires.selectors
-    c.requires.fields).gates
-
-pub returns-clause-circuit : goal.returns-clause-circuit
-returns-clause-circuit c =
-    let follows =
+pub returns-clause-ok : goal.returns-clause-ok
+returns-clause-ok c =
+    let made =
     rw (c.as_slice.ensures, ← c.as_slice-2.ensures.value, ← c.in_ok-outputs.ensures)
-    at c.in_ok-words.ensures.ok.follows in
-    rw (← c.self.view_is) follows
+    at c.in_ok-words.ensures.ok in
+    rw (← c.self.view_is) (record {
+      follows = made.follows;
+      given = record { many = made.given.many; each = made.given.each };
+      grows = made.grows;
+    })
 
 pub returns-clause-count : goal.returns-clause-count
 returns-clause-count c = λ plain.
@@ -58,11 +26,19 @@ returns-clause-count c = λ plain.
     Makes-exactly plain
     (block_makes c.args.self.now is c.args.fields.now c.requires.over (place_of c.args.circuit.now)
     c.requires.selectors c.requires.fields)
-    (returns-clause-circuit c)
+    (returns-clause-ok c).follows
 
 pub returns-clause-meaning : goal.returns-clause-meaning
-returns-clause-meaning c = λ v t met.
+returns-clause-meaning c =
     let is = rw c.self.view_is at c.self.invariant.0 in
-    Means-Follows
-    (block_reads c.args.self.now is c.args.fields.now c.requires.over v (λ i d k. (c.requires.fields i d k).bits))
-    (returns-clause-circuit c) t met
+    λ v. block_reads c.args.self.now is c.args.fields.now c.requires.over v (λ i d k. (c.requires.fields i d k).bits)
+
+pub returns-in_err-words-clause-meaning : goal.returns-in_err-words-clause-meaning
+returns-in_err-words-clause-meaning c =
+    let is = rw c.self.view_is at c.self.invariant.0 in
+    λ v. block_reads c.args.self.now is c.args.fields.now c.requires.over v (λ i d k. (c.requires.fields i d k).bits)
+
+pub returns-in_err-outputs-clause-meaning : goal.returns-in_err-outputs-clause-meaning
+returns-in_err-outputs-clause-meaning c =
+    let is = rw c.self.view_is at c.self.invariant.0 in
+    λ v. block_reads c.args.self.now is c.args.fields.now c.requires.over v (λ i d k. (c.requires.fields i d k).bits)

@@ -3,7 +3,7 @@ use Rattle.std.proofs.lemmas.Result.{IfOk-weaker}
 use Rattle.am_lit.specs.Truth.{value_at}
 use Rattle.am_tree.specs.declared.tree.Tree.{Tree}
 use Rattle.am_slot.specs.Encoding.{Encoding}
-use Rattle.am_slot.specs.Template.{IsDerived}
+use Rattle.am_slot.specs.Template.{IsDerivedTuple}
 use Rattle.am_slot.proofs.Bounds.{selectors_most}
 use Rattle.am_slot.proofs.Tables.{whole}
 use Rattle.am_slot.proofs.Stated.{derived_by}
@@ -25,6 +25,6 @@ returns-clause-derived c =
     let e : Encoding = record { rules = t.rules; starts = t.starts; depth = t.depth; width = t.width } in
     rw (← c.self.view_is)
     (λ h. IfOk-weaker c.trees.result _ _
-    (λ r is. subst (λ (ts : List Tree). IsDerived e ts) (sym (rw c.as_slice.ensures at is))
+    (λ r is. subst (λ (ts : List Tree). IsDerivedTuple e ts) (sym (rw c.as_slice.ensures at is))
     (derived_by e c.self.invariant.0 (value_at c.args.a.now.values) h))
     c.trees.ensures)

@@ -7,7 +7,7 @@ use Rattle.std.proofs.lemmas.List.Sums.{sum_by_more}
 use Rattle.am_tree.specs.declared.grammar.Production.{Production}
 use Rattle.am_tree.specs.declared.slots.Argument.{Argument}
 use Rattle.am_tree.specs.Slots.{arguments, shared_by}
-use Rattle.am_tree.specs.inside.Totals.{total, AreNumbers}
+use Rattle.am_tree.specs.inside.Totals.{total, AreBoundedTotals}
 use Rattle.am_tree.proofs.Bounds.{bound, bound-most, bound-next, few-children, index-most}
 use Rattle.am_tree.proofs.Formed.{bounds, inside, each-short, each-few}
 use Rattle.am_tree.proofs.Inside.{shared-inside}
@@ -31,7 +31,7 @@ sums_above-sums-requires-clause-inner c = rw (c.as_slice-in-loop.ensures.value, 
 pub sums_above-sums-requires-clause-below : goal.sums_above-sums-requires-clause-below
 sums_above-sums-requires-clause-below c =
     let few : c.loop.counter ≤ 4 = omega (arith, c.loop-test.true, c.args.self.now.well_formed.most_depth) in
-    let numbers : AreNumbers (length c.args.self.now.rules) (2 ^ 53) c.loop.sums.items = record {
+    let numbers : AreBoundedTotals (length c.args.self.now.rules) (2 ^ 53) c.loop.sums.items = record {
       len = c.loop.invariant.len;
       most = λ k d l. omega (arith, c.loop.invariant.most k d l, bound-most c.loop.counter few);
     } in

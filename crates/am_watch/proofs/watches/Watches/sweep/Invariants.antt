@@ -1,12 +1,12 @@
 use Rattle.std.proofs.Common.{◌≡◌, ◌++◌, ◌-◌, ◌<◌, length}
 use Rattle.am_watch.specs.Lists.{list_at}
-use Rattle.am_watch.specs.Watching.{Extends, Keeps}
+use Rattle.am_watch.specs.Watching.{Extends, KeepsWatches}
 use Rattle.am_watch.proofs.Sweeping.{AreDone}
 use Rattle.am_watch.proofs.watches.Watches.sweep.Given as goal
 
 abbrev pub invariant-loop-j : goal.invariant-loop-j
 invariant-loop-j l = record {
-  holds : Keeps l.self.lists l.self.pairs.items l.self.fresh.items (l.given ++ l.learnt) l.trail;
+  holds : KeepsWatches l.self.lists l.self.pairs.items l.self.fresh.items (l.given ++ l.learnt) l.trail;
   extends : Extends (l.given ++ l.learnt) l.initial.trail l.trail;
   head : l.trail.head ≡ l.initial.trail.head;
   fresh : l.self.fresh.items ≡ l.initial.self.fresh.items;
