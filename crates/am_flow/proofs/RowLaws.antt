@@ -12,7 +12,7 @@ use Rattle.am_domain.specs.Meaning.{IsAbstract}
 use Rattle.am_domain.specs.Question.{AreInputs, results}
 use Rattle.am_domain.specs.Tuple.{IsTuple}
 use Rattle.am_problem.proofs.Laws.{inputs_are_cut, results_are_tuples}
-use Rattle.am_problem.specs.Examples.{IsFieldRow as IsInputRow, inputs_of}
+use Rattle.am_problem.specs.Examples.{IsFieldRow, inputs_of}
 use Rattle.am_problem.specs.Kinds.{abstraction_of, fields_of, meaning_of}
 use Rattle.am_problem.specs.Problem.{question_of}
 use Rattle.am_problem.specs.declared.kind.Kind.{Kind}
@@ -107,7 +107,7 @@ module _ (f : Flow) (o : Operation) (from : List ℕ) (row : FlowRow) (is : IsFl
         }
 
     -- its inputs stand one after another
-    pub inputs_cut : IsInputRow o.problem (concat (at [] row from))
+    pub inputs_cut : IsFieldRow o.problem (concat (at [] row from))
         × (inputs_of o.problem (concat (at [] row from)) ≡ at [] row from)
     inputs_cut = inputs_are_cut o.problem (at [] row from) are_inputs
 

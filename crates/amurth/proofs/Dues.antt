@@ -5,7 +5,7 @@ use Rattle.std.specs.Prelude.{Contains, IfOk, Result}
 use Rattle.std.specs.declared.option.Option.{Option}
 use Rattle.am_cert.specs.declared.limits.TheConstants.{MOST_BYTES}
 use Rattle.am_cert.specs.Certificate.{Certificate}
-use Rattle.am_cert.specs.Texts.{ReadsAsCertificate as ReadsCertificate, certificate_of}
+use Rattle.am_cert.specs.Texts.{ReadsAsCertificate, certificate_of}
 use Rattle.am_io.specs.Streams.{Loses}
 use Rattle.am_problem.specs.Problem.{Problem}
 use Rattle.am_query.specs.declared.outcome.Outcome.{Outcome}
@@ -57,8 +57,8 @@ judged_end : (c : Certificate) (s : Status) (written : List ℕ) → IsJudged c 
 judged_end c s written (inl h) = end_is Check s _ h.ended (0, lit< tt, refl)
 judged_end c s written (inr h) = end_is Check s _ h.ended (2, lit< tt, refl)
 
-check_end : (s : Status) (input written : List ℕ) → IsAnswer ReadsCertificate certificate_of IsJudged s input written →
-    Contains (ends_of Check) s
+check_end : (s : Status) (input written : List ℕ) →
+    IsAnswer ReadsAsCertificate certificate_of IsJudged s input written → Contains (ends_of Check) s
 check_end s input written (inl h) = judged_end h.value s written h.due
 check_end s input written (inr h) = end_is Check s _ h.ended (1, lit< tt, refl)
 

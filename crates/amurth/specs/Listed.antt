@@ -1,14 +1,13 @@
 -- What `list` writes: all best tuples of a small problem.
-use Rattle.std.specs.Prelude.{◌≡◌, ℕ, ◌⊎◌, List, [], ◌∷◌, codes, decimal, flat_map, length, map}
+use Rattle.std.specs.Prelude.{◌≡◌, ℕ, ◌⊎◌, List, [], ◌∷◌, codes, decimal, length, map}
 use Rattle.am_all.specs.AllBest.{AreAllBest}
 use Rattle.am_all.specs.Sizes.{IsSmallProblem, IsTooGreat}
+use Rattle.am_cert.specs.Printing.{terms_words}
 use Rattle.am_bv.specs.declared.term.Term.{Term}
 use Rattle.am_problem.specs.Problem.{Problem}
 use Rattle.am_problem.specs.Texts.{ReadsAsProblem, problem_of}
 use Rattle.am_syntax.specs.Canonical.{lines}
 use Rattle.am_syntax.specs.Readers.{Words}
-use Rattle.am_syntax.specs.Spelling.{letter_code, term_words}
-use Rattle.am_syntax.specs.declared.limits.Letter.TheVariants.{F}
 use Rattle.am_syntax.specs.declared.refusal.Refusal.{Refusal}
 use Rattle.am_tree.specs.Trees.{terms_of}
 use Rattle.am_tree.specs.declared.tree.Tree.{Tree}
@@ -19,7 +18,7 @@ use Rattle.amurth.specs.declared.status.Status.TheVariants.{Done, Refused}
 
 -- terms on one line
 abbrev pub terms_row : List Term → Words
-terms_row terms = codes "terms" ∷ flat_map (term_words (letter_code F)) terms
+terms_row terms = codes "terms" ∷ terms_words terms
 
 -- how many tuples of trees there are, and a line of terms for each
 abbrev pub list_text : Problem → List (List Tree) → List ℕ
